@@ -1,0 +1,28 @@
+-- A run is refused as a whole, or read and played: what holds of both holds of every run.
+use Prim.Native.Nat.{ℕ, _*_}
+use mathlib.Core.Path.{_≡_, refl}
+use mathlib.Core.List.{List}
+use mathlib.Core.Bool.{Bool, true, false, _||_}
+use lib.Dec.{ltb}
+use lib.ListN.{length}
+use Rattle.walk.specs.Reader.{Read, got, bad, Call, read-run}
+use Rattle.walk.specs.Run.{Ran, play-all, start, refused-run, played, run-read, run}
+
+module _ (row-words cell-words answer-words : ℕ) (bytes : List ℕ) (P : Ran → Type 0) (refused : (n place : ℕ) → P (refused-run n place)) (read : (limit : ℕ) (calls : List Call) (rest : List ℕ) (end : ℕ) → read-run bytes ≡ got (limit, calls) rest end → P (played limit calls (play-all calls (start limit row-words cell-words)))) where
+  read-cases : (r : Read (ℕ × List Call)) → read-run bytes ≡ r → P (run-read row-words cell-words answer-words r)
+  unfolding run-read
+  read-cases (bad place) e = refused 3 place
+  read-cases (got (limit, calls) rest end) e = go (ltb answer-words (4 * length calls))
+    where
+      go : (b : Bool) → P (elim b as (λ _. Ran) [ true ↦ refused-run 4 0 | false ↦ played limit calls (play-all calls (start limit row-words cell-words)) ])
+      go true = refused 4 0
+      go false = read limit calls rest end e
+
+  pub run-cases : P (run row-words cell-words answer-words bytes)
+  unfolding run
+  run-cases = go (ltb row-words 24 || ltb cell-words 8) (ltb 65536 (length bytes))
+    where
+      go : (a b : Bool) → P (elim a as (λ _. Ran) [ true ↦ refused-run 1 0 | false ↦ elim b as (λ _. Ran) [ true ↦ refused-run 2 0 | false ↦ run-read row-words cell-words answer-words (read-run bytes) ] ])
+      go true b = refused 1 0
+      go false true = refused 2 0
+      go false false = read-cases (read-run bytes) refl

@@ -1,0 +1,16 @@
+-- The definition of the run, and the proof that its table is a derivation order.
+-- What readers must believe: Syntax, Judgment, Rule, Rules, State, Walk, Reader, Limits, Run, Demand.
+pub mod Syntax
+pub mod Judgment
+pub mod Rule
+pub mod Rules
+pub mod State
+pub mod Walk
+pub mod Reader
+pub mod Limits
+pub mod Run
+pub mod Demand
+pub mod Sound
+pub mod Calls
+pub mod Opened
+pub mod Examples

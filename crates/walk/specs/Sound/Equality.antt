@@ -1,0 +1,92 @@
+-- The rows of normalize, equal and reduce state what they should.
+use Prim.Native.Nat.{ℕ, suc}
+use mathlib.Core.Path.{subst as along, _≡_}
+use mathlib.Core.List.{List, [], _∷_}
+use mathlib.Core.Option.{none}
+use lib.Dec.{lit<}
+use Rattle.walk.specs.Syntax.{quote, quote?, Interval, I0, I1, Dim, Neg, Meet, Join, Term, Universe, Var, Nat, Zero, Pi, Lam, App, Path, PathLam, PathApp, Context, Cons, Quote, path, plam, papp, Quotes}
+use Rattle.walk.specs.Judgment.{interval, dsubst, has, eq}
+use Rattle.walk.specs.Rules.{Follows, by·eq·refl, by·eq·sym, by·eq·trans, by·eq·beta, by·eq·pbeta, by·eq·p0, by·eq·p1}
+use Rattle.walk.specs.State.{Row}
+use Rattle.walk.specs.Walk.{Subst, DSubst, Callees, typed, lam-parts, plam-body, equation, beta, at-end, pbeta, ends, reduce-body, rounds, normalize-body, equal-body}
+use Rattle.walk.specs.Demand.{At, none-cited, _also_, same}
+use Rattle.walk.specs.Sound.Logic.{lift, _and_by_, bind, refusing, giving, branch, cases, emitted, Keeps}
+use Rattle.walk.specs.Sound.Says.{Stepped, Sound}
+use Rattle.walk.specs.Sound.Parts.{lam-is, plam-is}
+use Rattle.walk.specs.Sound.Typing.{as-path-sound}
+use Rattle.walk.specs.Rule as R
+
+-- two rules at equal quotes
+pbeta-rule : {d : ℕ} {g : Quotes} {p t A b f B t′ : Quote} {r : Interval} → p ≡ plam t → Follows R.eq·pbeta (has d g p (path A b f) ∷ interval d r ∷ dsubst A 0 r B ∷ dsubst t 0 r t′ ∷ has d g t′ B ∷ []) (eq d g (papp p r) t′ B)
+pbeta-rule q = rw q by·eq·pbeta
+
+refl-rule : {d : ℕ} {g : Quotes} {a b A : Quote} → a ≡ b → Follows R.eq·refl (has d g a A ∷ []) (eq d g a b A)
+refl-rule q = rw q by·eq·refl
+
+module _ (c : Callees) (S : Sound c) where
+  beta-sound : {rs : List Row} (d : ℕ) (g : Context) (a body r : Term) → Keeps rs (beta c d g a body r) (Stepped d g (App (Lam a body) r))
+  unfolding beta
+  beta-sound d g a body r =
+      bind (S .universe d g a) λ _ _ _ h₀. bind (S .infer d (Cons a g) body) λ o₁ _ e₁ h₁. bind (S .universe d (Cons a g) (o₁ .0)) λ _ _ e₂ h₂. bind (S .check d g r a) λ _ _ e₃ h₃.
+      bind (S .transform body (Subst 0 r)) λ o₄ _ e₄ h₄. bind (S .transform (o₁ .0) (Subst 0 r)) λ o₅ _ e₅ h₅.
+      bind (emitted (none-cited and h₀ by same and h₁ by e₁ and h₂ by e₂ and h₃ by e₃ and h₄ by e₄ and h₅ by e₅) by·eq·beta) λ row _ _ h. giving _ λ _ e. lift e h
+
+  pbeta-sound : {rs : List Row} (d : ℕ) (g : Context) (p : Term) (r : Interval) (body a b f ty : Term) (x y : ℕ) → quote p ≡ plam (quote body) → At x (typed d g p (Path a b f)) rs → At y (dsubst (quote a) 0 r (quote ty)) rs → Keeps rs (pbeta c d g p r body ty x y) (Stepped d g (PathApp p r))
+  unfolding pbeta
+  pbeta-sound d g p r body a b f ty x y q hx hy =
+      bind (S .interval d r) λ _ _ e₁ h₁. bind (S .transform body (DSubst 0 r)) λ o₂ _ e₂ h₂. bind (S .check d g (o₂ .0) ty) λ _ _ e₃ h₃.
+      bind (emitted (lift e₃ (lift e₂ (lift e₁ hx)) also lift e₃ (lift e₂ h₁) also lift e₃ (lift e₂ (lift e₁ hy)) also lift e₃ h₂ also h₃ also none-cited) (pbeta-rule q)) λ row _ _ h. giving _ λ _ e. lift e h
+
+  ends-sound : {rs : List Row} (d : ℕ) (g : Context) (p : Term) (r : Interval) (a b f ty : Term) (x y : ℕ) → At x (typed d g p (Path a b f)) rs → At y (dsubst (quote a) 0 r (quote ty)) rs → Keeps rs (ends c d g p r b f ty x y) (Stepped d g (PathApp p r))
+  unfolding ends at-end
+  ends-sound d g p I0 a b f ty x y hx hy = bind (S .check d g b ty) λ _ _ e₁ h₁. bind (emitted (lift e₁ hx also lift e₁ hy also h₁ also none-cited) by·eq·p0) λ row _ _ h. giving _ λ _ e. lift e h
+  ends-sound d g p I1 a b f ty x y hx hy = bind (S .check d g f ty) λ _ _ e₁ h₁. bind (emitted (lift e₁ hx also lift e₁ hy also h₁ also none-cited) by·eq·p1) λ row _ _ h. giving _ λ _ e. lift e h
+  ends-sound d g p (Dim n) a b f ty x y hx hy = giving none λ _ _. tt
+  ends-sound d g p (Neg r) a b f ty x y hx hy = giving none λ _ _. tt
+  ends-sound d g p (Meet r q) a b f ty x y hx hy = giving none λ _ _. tt
+  ends-sound d g p (Join r q) a b f ty x y hx hy = giving none λ _ _. tt
+
+  pub reduce-sound : {rs : List Row} (d : ℕ) (g : Context) (t : Term) → Keeps rs (reduce-body c d g t) (Stepped d g t)
+  unfolding reduce-body
+  reduce-sound d g (Universe l) = giving none λ _ _. tt
+  reduce-sound d g (Var n) = giving none λ _ _. tt
+  reduce-sound d g Nat = giving none λ _ _. tt
+  reduce-sound d g Zero = giving none λ _ _. tt
+  reduce-sound d g (Pi a b) = giving none λ _ _. tt
+  reduce-sound d g (Lam a b) = giving none λ _ _. tt
+  reduce-sound d g (App f r) = cases (lam-parts f) (λ ab q. rw (lam-is f ab q) (beta-sound d g (ab .0) (ab .1) r)) (λ _. giving none λ _ _. tt)
+  reduce-sound d g (Path a b e) = giving none λ _ _. tt
+  reduce-sound d g (PathLam a b) = giving none λ _ _. tt
+  reduce-sound d g (PathApp p r) =
+      bind (S .infer d g p) λ o₀ _ _ h₀. bind (as-path-sound c S d g p (o₀ .0) (o₀ .1) h₀) λ o₁ _ _ h₁. bind (S .transform (o₁ .0) (DSubst 0 r)) λ o₂ _ e₂ h₂.
+      cases (plam-body p)
+      (λ body q. pbeta-sound d g p r body (o₁ .0) (o₁ .1) (o₁ .2) (o₂ .0) (o₁ .3) (o₂ .1) (plam-is p body q) (lift e₂ h₁) h₂)
+      (λ _. ends-sound d g p r (o₁ .0) (o₁ .1) (o₁ .2) (o₂ .0) (o₁ .3) (o₂ .1) (lift e₂ h₁) h₂)
+
+  rounds-sound : {rs : List Row} (left d : ℕ) (g : Context) (t ty current : Term) (x : ℕ) → At x (equation d g t current ty) rs → Keeps rs (rounds left c d g t ty current x) (λ o. At (o .1) (equation d g t (o .0) ty))
+  unfolding rounds
+  rounds-sound ℕ.zero d g t ty current x hx = bind (S .reduce d g current) λ o _ e₁ _. cases o (λ _ _. refusing 15 (lit< tt)) (λ _. giving (current, x) λ _ e. lift e (lift e₁ hx))
+  rounds-sound (ℕ.suc left) d g t ty current x hx =
+      bind (S .reduce d g current) λ o rs₁ e₁ h₁.
+      cases o
+      (λ step q. branch (quote? (quote (step .type)) (quote ty))
+      (λ q′. bind (S .check d g (step .term) ty) λ _ _ e₂ _.
+      let h : At (step .row) (equation d g current (step .term) (step .type)) rs₁ = along (λ o. Stepped d g current o rs₁) q h₁ in
+      bind (emitted (lift e₂ (lift e₁ hx) also lift e₂ (rw q′ at h) also none-cited) by·eq·trans) λ y _ _ h₃. rounds-sound left d g t ty (step .term) y h₃)
+      (λ _. refusing 14 (lit< tt)))
+      (λ _. giving (current, x) λ _ e. lift e (lift e₁ hx))
+
+  pub normalize-sound : {rs : List Row} (d : ℕ) (g : Context) (t ty : Term) → Keeps rs (normalize-body c d g t ty) (λ o. At (o .1) (equation d g t (o .0) ty))
+  unfolding normalize-body
+  normalize-sound d g t ty = bind (S .check d g t ty) λ _ _ _ h₁. bind (emitted (h₁ also none-cited) by·eq·refl) λ x _ _ h₂. rounds-sound 32 d g t ty t x h₂
+
+  pub equal-sound : {rs : List Row} (d : ℕ) (g : Context) (a b ty : Term) → Keeps rs (equal-body c d g a b ty) (λ x. At x (equation d g a b ty))
+  unfolding equal-body
+  equal-sound d g a b ty =
+      bind (S .check d g a ty) λ _ _ _ h₁. bind (S .check d g b ty) λ _ _ e₂ _.
+      branch (quote? (quote a) (quote b))
+      (λ q. emitted (lift e₂ h₁ also none-cited) (refl-rule q))
+      (λ _. bind (S .normalize d g a ty) λ o₃ _ _ h₃. bind (S .normalize d g b ty) λ o₄ _ e₄ h₄.
+      branch (quote? (quote (o₃ .0)) (quote (o₄ .0)))
+      (λ q. bind (emitted (h₄ also none-cited) by·eq·sym) λ _ _ e₅ h₅. emitted (lift e₅ (lift e₄ (rw q at h₃)) also h₅ also none-cited) by·eq·trans)
+      (λ _. refusing 13 (lit< tt)))

@@ -1,0 +1,113 @@
+-- transform, under: producer.rs, `transform` and `under`.
+use Prim.Native.Nat.{ℕ, suc}
+use mathlib.Core.List.{List, [], _∷_, _++_}
+use mathlib.Core.Bool.{Bool, true, false}
+use native.Mathlib.Decide.{ℕ-discrete, decLt}
+use Rattle.walk.specs.Syntax.{Interval, Term, Universe, Var, Nat, Zero, Pi, Lam, App, Path, PathLam, PathApp, quote}
+use Rattle.walk.specs.Judgment.{Judgment, shift, subst, dshift, dsubst}
+use Rattle.walk.specs.Rule as R
+use Rattle.walk.specs.State.{M, _>>=_, pure, refuse, if_then_else_, of-term, count-all, emit}
+use Rattle.walk.specs.Walk.Reference.{Op, Shift, Subst, DShift, DSubst, IShift, ISubst, Callees}
+
+-- under a binder, of a variable (false) or of a dimension (true); with the rows that this cites
+unfoldable pub under-body : Callees → Op → Bool → M (Op × List ℕ)
+under-body c (Shift k) false = pure (Shift (suc k), [])
+under-body c (Shift k) true = pure (Shift k, [])
+under-body c (Subst k r) false = do
+  (r′, x) ← c .transform r (Shift 0)
+  pure (Subst (suc k) r′, x ∷ [])
+under-body c (Subst k r) true = do
+  (r′, x) ← c .transform r (DShift 0)
+  pure (Subst k r′, x ∷ [])
+under-body c (DShift k) false = pure (DShift k, [])
+under-body c (DShift k) true = pure (DShift (suc k), [])
+under-body c (DSubst k r) false = pure (DSubst k r, [])
+under-body c (DSubst k r) true = do
+  (r′, x) ← c .itransform r (IShift 0)
+  pure (DSubst (suc k) r′, x ∷ [])
+
+abbrev pub transformed : Term → Op → Term → Judgment
+transformed t (Shift k) out = shift (quote t) k (quote out)
+transformed t (Subst k r) out = subst (quote t) k (quote r) (quote out)
+transformed t (DShift k) out = dshift (quote t) k (quote out)
+transformed t (DSubst k r) out = dsubst (quote t) k r (quote out)
+
+abbrev pub by-op : Op → ℕ → ℕ → ℕ → ℕ → ℕ
+by-op (Shift k) a b c d = a
+by-op (Subst k r) a b c d = b
+by-op (DShift k) a b c d = c
+by-op (DSubst k r) a b c d = d
+
+unfoldable pub finish : Term → Op → Term → ℕ → List ℕ → M (Term × ℕ)
+finish t op out rule refs = do
+  _ ← count-all (of-term out)
+  row ← emit rule refs (transformed t op out)
+  pure (out, row)
+
+-- a variable above k (so not 0: 17 is never met)
+unfoldable pub tvar-above : Callees → ℕ → ℕ → Term → M (Term × ℕ)
+tvar-above c ℕ.zero k r = refuse 17
+tvar-above c (ℕ.suc n) k r = do
+  x ← c .comparison k (suc n) true
+  finish (Var (suc n)) (Subst k r) (Var n) R.subst·v·gt (x ∷ [])
+
+unfoldable pub tvar : Callees → ℕ → Op → M (Term × ℕ)
+tvar c n (Shift k) =
+    if decLt n k
+    then (c .comparison n k true >>= λ x. finish (Var n) (Shift k) (Var n) R.shift·v·lt (x ∷ []))
+    else (c .comparison k n false >>= λ x. finish (Var n) (Shift k) (Var (suc n)) R.shift·v·ge (x ∷ []))
+tvar c n (Subst k r) =
+    if ℕ-discrete n k
+    then finish (Var n) (Subst k r) r R.subst·v·hit []
+    else
+    (if decLt n k
+    then (c .comparison n k true >>= λ x. finish (Var n) (Subst k r) (Var n) R.subst·v·lt (x ∷ []))
+    else tvar-above c n k r)
+tvar c n (DShift k) = finish (Var n) (DShift k) (Var n) R.dshift·v []
+tvar c n (DSubst k r) = finish (Var n) (DSubst k r) (Var n) R.dsubst·v []
+
+-- the interval of a papp, with the rows that this cites
+unfoldable pub tinterval : Callees → Interval → Op → M (Interval × List ℕ)
+tinterval c r (Shift k) = pure (r, [])
+tinterval c r (Subst k x) = pure (r, [])
+tinterval c r (DShift k) = do
+  (r′, x) ← c .itransform r (IShift k)
+  pure (r′, x ∷ [])
+tinterval c r (DSubst k q) = do
+  (r′, x) ← c .itransform r (ISubst k q)
+  pure (r′, x ∷ [])
+
+unfoldable pub transform-body : Callees → Term → Op → M (Term × ℕ)
+transform-body c (Universe l) op = finish (Universe l) op (Universe l) (by-op op R.shift·u R.subst·u R.dshift·u R.dsubst·u) []
+transform-body c (Var n) op = tvar c n op
+transform-body c Nat op = finish Nat op Nat (by-op op R.shift·nat R.subst·nat R.dshift·nat R.dsubst·nat) []
+transform-body c Zero op = finish Zero op Zero (by-op op R.shift·zero R.subst·zero R.dshift·zero R.dsubst·zero) []
+transform-body c (Pi a b) op = do
+  (a′, x) ← c .transform a op
+  (inner, refs) ← c .under op false
+  (b′, y) ← c .transform b inner
+  finish (Pi a b) op (Pi a′ b′) (by-op op R.shift·pi R.subst·pi R.dshift·pi R.dsubst·pi) (x ∷ refs ++ y ∷ [])
+transform-body c (Lam a b) op = do
+  (a′, _) ← c .transform a op
+  (inner, refs) ← c .under op false
+  (b′, y) ← c .transform b inner
+  finish (Lam a b) op (Lam a′ b′) (by-op op R.shift·lam R.subst·lam R.dshift·lam R.dsubst·lam) (refs ++ y ∷ [])
+transform-body c (App f a) op = do
+  (f′, x) ← c .transform f op
+  (a′, y) ← c .transform a op
+  finish (App f a) op (App f′ a′) (by-op op R.shift·app R.subst·app R.dshift·app R.dsubst·app) (x ∷ y ∷ [])
+transform-body c (Path a b e) op = do
+  (inner, refs) ← c .under op true
+  (a′, x) ← c .transform a inner
+  (b′, y) ← c .transform b op
+  (e′, z) ← c .transform e op
+  finish (Path a b e) op (Path a′ b′ e′) (by-op op R.shift·path R.subst·path R.dshift·path R.dsubst·path) (refs ++ x ∷ y ∷ z ∷ [])
+transform-body c (PathLam a b) op = do
+  (inner, refs) ← c .under op true
+  (a′, _) ← c .transform a inner
+  (b′, y) ← c .transform b inner
+  finish (PathLam a b) op (PathLam a′ b′) (by-op op R.shift·plam R.subst·plam R.dshift·plam R.dsubst·plam) (refs ++ y ∷ [])
+transform-body c (PathApp p r) op = do
+  (p′, x) ← c .transform p op
+  (r′, refs) ← tinterval c r op
+  finish (PathApp p r) op (PathApp p′ r′) (by-op op R.shift·papp R.subst·papp R.dshift·papp R.dsubst·papp) (x ∷ refs)
