@@ -6,9 +6,10 @@ use mathlib.Core.Bool.{Bool, true, false, _||_}
 use lib.Dec.{ltb}
 use lib.ListN.{length}
 use Rattle.walk.specs.Reader.{Read, got, bad, Call, read-run}
+use Rattle.order.specs.Reading.{Was-read, run-read-so}
 use Rattle.walk.specs.Run.{Ran, play-all, start, refused-run, played, run-read, run}
 
-module _ (row-words cell-words answer-words : ℕ) (bytes : List ℕ) (P : Ran → Type 0) (refused : (n place : ℕ) → P (refused-run n place)) (read : (limit : ℕ) (calls : List Call) (rest : List ℕ) (end : ℕ) → read-run bytes ≡ got (limit, calls) rest end → P (played limit calls (play-all calls (start limit row-words cell-words)))) where
+module _ (row-words cell-words answer-words : ℕ) (bytes : List ℕ) (P : Ran → Type 0) (refused : (n place : ℕ) → P (refused-run n place)) (read : (limit : ℕ) (calls : List Call) → Was-read limit calls → P (played limit calls (play-all calls (start limit row-words cell-words)))) where
   read-cases : (r : Read (ℕ × List Call)) → read-run bytes ≡ r → P (run-read row-words cell-words answer-words r)
   unfolding run-read
   read-cases (bad place) e = refused 3 place
@@ -16,7 +17,7 @@ module _ (row-words cell-words answer-words : ℕ) (bytes : List ℕ) (P : Ran �
     where
       go : (b : Bool) → P (elim b as (λ _. Ran) [ true ↦ refused-run 4 0 | false ↦ played limit calls (play-all calls (start limit row-words cell-words)) ])
       go true = refused 4 0
-      go false = read limit calls rest end e
+      go false = read limit calls (run-read-so bytes limit calls rest end e)
 
   pub run-cases : P (run row-words cell-words answer-words bytes)
   unfolding run

@@ -1,4 +1,13 @@
 -- Demand 3, and what else holds of the definition of the run.
+pub mod Reading
 pub mod Cases
 pub mod Derivation
+pub mod Numbers
+pub mod Guarded
+pub mod Bound
+pub mod Sent
+pub mod Never
+pub mod Later
+pub mod Counts
 pub mod Theorem
+pub mod Call

@@ -3,6 +3,7 @@ use Prim.Native.Nat.{ℕ, _+_, _*_, _/_, _≤_, min}
 use mathlib.Core.Path.{_≡_, refl, sym, ap, subst}
 use mathlib.Core.List.{List, [], _∷_, _++_}
 use mathlib.Core.Bool.{Bool, true, false, _||_}
+use native.Mathlib.Nat.{mul-div-le}
 use native.Mathlib.Omega.{arith}
 use lib.Dec.{ltb}
 use lib.ListN.{length}
@@ -14,6 +15,7 @@ use Rattle.walk.specs.Demand.{At, Extends, same, All-stated, no-call, Demand-3}
 use Rattle.walk.specs.Sound.Logic.{Good, empty, nothing}
 use Rattle.walk.specs.Calls.{All-left, play-all-left}
 use Rattle.order.specs.Cases.{run-cases}
+use Rattle.order.specs.Counts.{played-counts}
 use Rattle.order.specs.Derivation.{derivation-order, distinct, derives, cut-order}
 
 -- the calls of a list, one part after the other
@@ -22,7 +24,7 @@ unfolding play-all
 play-append [] others s = refl
 play-append (call ∷ first) others s = play-append first others (play call s .1)
 
-start-good : (limit row-words cell-words : ℕ) → Good (start limit row-words cell-words)
+pub start-good : (limit row-words cell-words : ℕ) → Good (start limit row-words cell-words)
 unfolding start
 start-good limit row-words cell-words = record { order = empty; kept = nothing }
 
@@ -52,17 +54,18 @@ module _ (row-words cell-words : ℕ) where
     grows = λ first others e. rw (none-first first others _ e) same;
   }
 
-  played-demand : (limit : ℕ) (calls : List Call) → Demand-3 row-words cell-words (played limit calls (play-all calls (start limit row-words cell-words)))
-  played-demand limit calls =
+  played-demand : (limit : ℕ) (calls : List Call) → limit ≤ 4096 → Demand-3 row-words cell-words (played limit calls (play-all calls (start limit row-words cell-words)))
+  played-demand limit calls l =
       let s = start limit row-words cell-words in
       let good = start-good limit row-words cell-words in
       let k = play-all-left calls s good in
       let o = k .good .order in
+      let rows = played-counts limit calls row-words cell-words l .rows in
       record {
         order = derivation-order o;
         distinct = distinct o;
-        few = ?;
-        held = ?;
+        few = omega arith;
+        held = let h = mul-div-le row-words 24 in omega arith;
         stated = k .stated;
         refused = λ z. absurd (z refl);
         cut-order = λ n. derivation-order (cut-order n o);
@@ -72,4 +75,4 @@ module _ (row-words cell-words : ℕ) where
 
 -- for all bytes and all lengths of the three slices
 pub demand-3 : (row-words cell-words answer-words : ℕ) (bytes : List ℕ) → Demand-3 row-words cell-words (run row-words cell-words answer-words bytes)
-demand-3 row-words cell-words answer-words bytes = run-cases row-words cell-words answer-words bytes (λ ran. Demand-3 row-words cell-words ran) (refused-demand row-words cell-words) (λ limit calls _ _ _. played-demand row-words cell-words limit calls)
+demand-3 row-words cell-words answer-words bytes = run-cases row-words cell-words answer-words bytes (λ ran. Demand-3 row-words cell-words ran) (refused-demand row-words cell-words) (λ limit calls r. played-demand row-words cell-words limit calls (r .most))
