@@ -1,5 +1,4 @@
 -- The largest number that stands in a term, a judgment or a cell, and what it means that a run leaves none above 65,535.
--- Assumes nothing.
 use Prim.Native.Nat.{ℕ, _≤_, max}
 use mathlib.Core.List.{List, [], _∷_}
 use Rattle.walk.specs.Syntax.{Interval, I0, I1, Dim, Neg, Meet, Join, Term, Universe, Var, Nat, Zero, Pi, Lam, App, Path, PathLam, PathApp, Context, Nil, Cons, Quote, u, v, nat, zero, pi, lam, app, path, plam, papp, Quotes, nil, cons}

@@ -1,5 +1,5 @@
 -- What follows by a rule: `Follows n js j` says that rule n takes the premises js, in this order, to j.
--- One constructor for each of the 95 rules. Assumes nothing.
+-- One constructor for each of the 95 rules.
 use Prim.Native.Nat.{ℕ, suc}
 use mathlib.Core.List.{List, [], _∷_}
 use Rattle.walk.specs.Syntax.{Interval, I0, I1, Dim, Neg, Meet, Join, Quote, u, v, nat, zero, pi, lam, app, path, plam, papp, Quotes, nil, cons}
