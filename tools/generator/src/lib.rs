@@ -1,0 +1,19 @@
+//! Runs to compare by: `case(seed, place)` is one of endlessly many, `seeds()`
+//! are those written by hand.
+mod calls;
+mod damage;
+mod edges;
+mod random;
+mod runs;
+mod seeds;
+mod shapes;
+mod term;
+mod typed;
+
+pub use calls::Case;
+pub use random::Random;
+pub use runs::{case, short, sweep};
+
+pub fn seeds() -> Vec<Case> {
+    seeds::cases()
+}

@@ -1,0 +1,66 @@
+//! Which refusals and rules a set of runs meets, and how often.
+use crate::rules;
+use crate::run::Ran;
+use std::fmt::{self, Write};
+
+pub struct Cover {
+    runs: u64,
+    slow: u64,
+    calls: u64,
+    rows: u64,
+    /// By number: 0 accepted, 1 to 4 runs, the rest calls.
+    numbers: [u64; 256],
+    rules: [u64; rules::NAMES.len()],
+}
+
+impl Default for Cover {
+    fn default() -> Self {
+        Self {
+            runs: 0,
+            slow: 0,
+            calls: 0,
+            rows: 0,
+            numbers: [0; 256],
+            rules: [0; rules::NAMES.len()],
+        }
+    }
+}
+
+impl Cover {
+    pub fn add(&mut self, ran: Option<&Ran>) {
+        self.runs += 1;
+        let Some(ran) = ran else {
+            self.slow += 1;
+            return;
+        };
+        if ran.number != 0 {
+            self.numbers[usize::from(ran.number)] += 1;
+        }
+        self.calls += ran.answers.len() as u64;
+        self.rows += ran.rows.len() as u64;
+        for answer in &ran.answers {
+            self.numbers[usize::from(answer.number)] += 1;
+        }
+        for row in &ran.rows {
+            self.rules[rules::number(&row.rule)] += 1;
+        }
+    }
+
+    pub fn write(&self, out: &mut String) -> fmt::Result {
+        writeln!(
+            out,
+            "runs {} slow {} calls {} rows {}",
+            self.runs, self.slow, self.calls, self.rows
+        )?;
+        for (number, count) in self.numbers.iter().enumerate() {
+            if *count > 0 || number <= 20 {
+                writeln!(out, "number {number} {count}")?;
+            }
+        }
+        for (number, count) in self.rules.iter().enumerate() {
+            writeln!(out, "rule {number} {} {count}", rules::NAMES[number])?;
+        }
+        let missing = |counts: &[u64]| counts.iter().filter(|count| **count == 0).count();
+        writeln!(out, "missing {} {}", missing(&self.numbers[..=20]), missing(&self.rules))
+    }
+}

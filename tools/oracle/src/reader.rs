@@ -1,0 +1,97 @@
+//! A run's bytes: the nesting limit and the calls, or refusal 3 with its place.
+use crate::cubical::ast::{Interval, Term};
+
+pub struct Call {
+    pub code: u8,
+    pub dimensions: usize,
+    pub context: Vec<Term>,
+    pub terms: Vec<Term>,
+}
+
+/// The place of what is wrong.
+pub struct Bad(pub usize);
+
+struct Reader<'a> {
+    bytes: &'a [u8],
+    at: usize,
+}
+
+/// How many terms a call of each code has.
+const TERMS: [usize; 6] = [0, 1, 1, 2, 2, 3];
+
+pub fn read(bytes: &[u8]) -> Result<(u32, Vec<Call>), Bad> {
+    let mut reader = Reader { bytes, at: 0 };
+    let low = reader.byte()?;
+    let limit = u32::from(low) + 256 * u32::from(reader.byte()?);
+    if !(1..=4096).contains(&limit) {
+        return Err(Bad(0));
+    }
+    let mut calls = Vec::new();
+    while reader.at < bytes.len() {
+        calls.push(reader.call()?);
+    }
+    Ok((limit, calls))
+}
+
+impl Reader<'_> {
+    fn byte(&mut self) -> Result<u8, Bad> {
+        let byte = *self.bytes.get(self.at).ok_or(Bad(self.at))?;
+        self.at += 1;
+        Ok(byte)
+    }
+
+    fn number(&mut self) -> Result<usize, Bad> {
+        self.byte().map(usize::from)
+    }
+
+    fn call(&mut self) -> Result<Call, Bad> {
+        let at = self.at;
+        let code = self.byte()?;
+        let count = *TERMS.get(usize::from(code)).ok_or(Bad(at))?;
+        let dimensions = self.number()?;
+        let length = self.number()?;
+        Ok(Call { code, dimensions, context: self.terms(length)?, terms: self.terms(count)? })
+    }
+
+    fn terms(&mut self, count: usize) -> Result<Vec<Term>, Bad> {
+        (0..count).map(|_| self.term()).collect()
+    }
+
+    fn boxed(&mut self) -> Result<Box<Term>, Bad> {
+        self.term().map(Box::new)
+    }
+
+    fn term(&mut self) -> Result<Term, Bad> {
+        let at = self.at;
+        Ok(match self.byte()? {
+            1 => Term::Universe(self.number()?),
+            2 => Term::Var(self.number()?),
+            3 => Term::Nat,
+            4 => Term::Zero,
+            5 => Term::Pi(self.boxed()?, self.boxed()?),
+            6 => Term::Lam(self.boxed()?, self.boxed()?),
+            7 => Term::App(self.boxed()?, self.boxed()?),
+            8 => Term::Path(self.boxed()?, self.boxed()?, self.boxed()?),
+            9 => Term::PathLam(self.boxed()?, self.boxed()?),
+            10 => Term::PathApp(self.boxed()?, self.interval()?),
+            _ => return Err(Bad(at)),
+        })
+    }
+
+    fn side(&mut self) -> Result<Box<Interval>, Bad> {
+        self.interval().map(Box::new)
+    }
+
+    fn interval(&mut self) -> Result<Interval, Bad> {
+        let at = self.at;
+        Ok(match self.byte()? {
+            16 => Interval::Zero,
+            17 => Interval::One,
+            18 => Interval::Var(self.number()?),
+            19 => Interval::Neg(self.side()?),
+            20 => Interval::Meet(self.side()?, self.side()?),
+            21 => Interval::Join(self.side()?, self.side()?),
+            _ => return Err(Bad(at)),
+        })
+    }
+}
