@@ -1,0 +1,109 @@
+-- The machine's run, from calls that were read: the cells of what is sent, each call, and its four answer words. Assumes nothing.
+use Prim.Native.Nat.{ℕ, _/_, min}
+use mathlib.Core.List.{List, [], _∷_, _++_}
+use lib.ListN.{length, drop}
+use Rattle.producer.specs.Machine.{Machine, machine, Result, is, not, W, _>>=_, intern, make-universe, make-var, make-nat, make-pi, make-lam, make-app, make-path, make-plam, make-papp, make-i0, make-i1, make-dim, make-neg, make-meet, make-join, make-nil, make-cons}
+use Rattle.producer.specs.Callees.{Callees}
+use Rattle.producer.specs.Calls.{callees}
+use Rattle.walk.specs.Syntax.{Interval, I0, I1, Dim, Neg, Meet, Join, Term, Universe, Var, Nat, Zero, Pi, Lam, App, Path, PathLam, PathApp, Context, Nil, Cons}
+use Rattle.walk.specs.Reader.{Code, c-context, c-universe, c-infer, c-check, c-normalise, c-equal, Call}
+use Rattle.walk.specs.Limits.{Sized, fits, scope-over, size-over, index-over, size-call}
+use Rattle.walk.specs.Run.{scope-of, nth}
+
+-- the cells of what is sent, parts first
+unfoldable pub build-interval : Interval → W ℕ
+build-interval I0 = make-i0
+build-interval I1 = make-i1
+build-interval (Dim n) = make-dim n
+build-interval (Neg r) = build-interval r >>= λ a. make-neg a
+build-interval (Meet r q) = build-interval r >>= λ a. build-interval q >>= λ b. make-meet a b
+build-interval (Join r q) = build-interval r >>= λ a. build-interval q >>= λ b. make-join a b
+
+unfoldable pub build-term : Term → W ℕ
+build-term (Universe l) = make-universe l
+build-term (Var n) = make-var n
+build-term Nat = make-nat
+build-term Zero = intern 4 0 0 0
+build-term (Pi a b) = build-term a >>= λ x. build-term b >>= λ y. make-pi x y
+build-term (Lam a b) = build-term a >>= λ x. build-term b >>= λ y. make-lam x y
+build-term (App a b) = build-term a >>= λ x. build-term b >>= λ y. make-app x y
+build-term (Path a b c) = build-term a >>= λ x. build-term b >>= λ y. build-term c >>= λ z. make-path x y z
+build-term (PathLam a b) = build-term a >>= λ x. build-term b >>= λ y. make-plam x y
+build-term (PathApp a r) = build-term a >>= λ x. build-interval r >>= λ y. make-papp x y
+
+unfoldable pub build-context : Context → W ℕ
+build-context Nil = make-nil
+build-context (Cons a g) = build-context g >>= λ h. build-term a >>= λ x. make-cons x h
+
+-- a call on what is sent: once it is entered, its arguments are made
+
+unfoldable pub call-ctx : Callees → ℕ → Context → W ℕ
+call-ctx c d g = c .ready >>= λ _. build-context g >>= λ h. c .ctx d h
+
+unfoldable pub call-universe : Callees → ℕ → Context → Term → W (ℕ × ℕ)
+call-universe c d g t = c .ready >>= λ _. build-context g >>= λ h. build-term t >>= λ x. c .universe d h x
+
+unfoldable pub call-infer : Callees → ℕ → Context → Term → W (ℕ × ℕ)
+call-infer c d g t = c .ready >>= λ _. build-context g >>= λ h. build-term t >>= λ x. c .infer d h x
+
+unfoldable pub call-check : Callees → ℕ → Context → Term → Term → W ℕ
+call-check c d g t ty = c .ready >>= λ _. build-context g >>= λ h. build-term t >>= λ x. build-term ty >>= λ y. c .check d h x y
+
+unfoldable pub call-normalize : Callees → ℕ → Context → Term → Term → W (ℕ × ℕ)
+call-normalize c d g t ty = c .ready >>= λ _. build-context g >>= λ h. build-term t >>= λ x. build-term ty >>= λ y. c .normalize d h x y
+
+unfoldable pub call-equal : Callees → ℕ → Context → Term → Term → Term → W ℕ
+call-equal c d g a b ty = c .ready >>= λ _. build-context g >>= λ h. build-term a >>= λ x. build-term b >>= λ y. build-term ty >>= λ z. c .equal d h x y z
+
+-- the four words of an answer
+pub record Said : Type 0 where
+  pub number : ℕ
+  pub row : ℕ
+  pub result : ℕ
+  pub deepest : ℕ
+
+unfoldable pub told : {C : Type 0} → (C → ℕ) → (C → ℕ) → Result C → Said × Machine
+told row result (is c w) = (record { number = 0; row = row c; result = result c; deepest = w .state .deepest }, w)
+told row result (not n w) = (record { number = n; row = 4294967295; result = 0; deepest = w .state .deepest }, w)
+
+unfoldable pub ask : Callees → Code → ℕ → Context → List Term → Machine → Said × Machine
+ask c c-context d g ts w = told (λ row. row) (λ row. 0) (call-ctx c d g w)
+ask c c-universe d g ts w = told (λ out. out .1) (λ out. out .0) (call-universe c d g (nth ts 0) w)
+ask c c-infer d g ts w = told (λ out. out .1) (λ out. out .0) (call-infer c d g (nth ts 0) w)
+ask c c-check d g ts w = told (λ row. row) (λ row. 0) (call-check c d g (nth ts 0) (nth ts 1) w)
+ask c c-normalise d g ts w = told (λ out. out .1) (λ out. out .0) (call-normalize c d g (nth ts 0) (nth ts 1) w)
+ask c c-equal d g ts w = told (λ row. row) (λ row. 0) (call-equal c d g (nth ts 0) (nth ts 1) (nth ts 2) w)
+
+-- a call that is not let in
+abbrev pub turned : ℕ → Said
+turned n = record { number = n; row = 4294967295; result = 0; deepest = 0 }
+
+-- deepest starts from 0
+unfoldable pub afresh : Machine → Machine
+afresh w = machine (w .rows) (w .cells) (record { rows = w .state .rows; cells = w .state .cells; conversions = w .state .conversions; deepest = 0; limit = w .state .limit; rowroom = w .state .rowroom; cellroom = w .state .cellroom })
+
+unfoldable pub ask-sized : Sized → Call → Machine → Said × Machine
+ask-sized scope-over call w = (turned 5, w)
+ask-sized size-over call w = (turned 6, w)
+ask-sized index-over call w = (turned 7, w)
+ask-sized (fits n) call w = ask (callees (w .state .limit)) (call .code) (call .dims) (scope-of Nil (call .types)) (call .terms) (afresh w)
+
+-- each call gets what the one before left
+unfoldable pub ask-all : List Call → Machine → List Said × Machine
+ask-all [] w = ([], w)
+ask-all (call ∷ calls) w =
+    let (said, w′) = ask-sized (size-call call) call w in
+    let (saids, w″) = ask-all calls w′ in
+    (said ∷ saids, w″)
+
+-- from no rows and no cells, whatever the slices hold
+unfoldable pub start : ℕ → List ℕ → List ℕ → Machine
+start limit rows cells = machine rows cells (record { rows = 0; cells = 0; conversions = 0; deepest = 0; limit = limit; rowroom = min 50000 (length rows / 24); cellroom = min 4294967295 (length cells / 8) })
+
+-- the words of the answers, and a slice that they are written over
+unfoldable pub four-words : List Said → List ℕ
+four-words [] = []
+four-words (a ∷ answers) = a .number ∷ a .row ∷ a .result ∷ a .deepest ∷ four-words answers
+
+unfoldable pub written-over : List ℕ → List ℕ → List ℕ
+written-over ws old = ws ++ drop (length ws) old

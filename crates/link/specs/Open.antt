@@ -1,0 +1,197 @@
+-- A cell is opened: what is done is matched for each kind of thing that it can hold.
+use Prim.Native.Nat.{ℕ}
+use mathlib.Core.Path.{_≡_, refl}
+use mathlib.Core.List.{List}
+use mathlib.Core.Option.{none}
+use mathlib.Core.Bool.{true}
+use lib.Dec.{eqb, eqb→eq}
+use Rattle.ast.specs.Cells.{same-quote-of, shape-by, shape-of}
+use Rattle.ast.specs.declared.cells.Cell.{Cell as Words}
+use Rattle.ast.specs.declared.cells.Shape.{Shape as Form}
+use Rattle.ast.specs.declared.cells.Shape.the-variants.{Universe as form-universe, Pi as form-pi, Lam as form-lam, Path as form-path, Plam as form-plam, Other as form-other}
+use Rattle.producer.specs.Machine.{W, open-cell, on-universe, on-pi, on-lam, on-path, on-plam}
+use Rattle.producer.specs.Machine as C
+use Rattle.walk.specs.Syntax.{Interval, I0, I1, Dim, Neg, Meet, Join, Term, Universe, Var, Nat, Zero, Pi, Lam, App, Path, PathLam, PathApp, Context, Nil, Cons, Quote, quote, quote?}
+use Rattle.walk.specs.State.{Thing, term, interval, context, M, if_then_else_, from_get_or_}
+use Rattle.walk.specs.Walk.Typing.{level, pi-parts, lam-parts, path-parts, plam-body}
+use Rattle.link.specs.Lists.{yes?}
+use Rattle.link.specs.Things.{a-quote, show, Cell, Low, low-same, low-number}
+use Rattle.link.specs.Tables.{Shape, s-universe, s-var, s-nat, s-zero, s-pi, s-lam, s-app, s-path, s-plam, s-papp, s-i0, s-i1, s-dim, s-neg, s-meet, s-join, s-nil, s-cons}
+use Rattle.link.specs.Store.{cell-by, quote-is, decides, eqb-self}
+use Rattle.link.specs.Holds.{Before, read-cell}
+use Rattle.link.specs.Match.{Matches, branch, opening}
+
+-- a cell with the lowest that has its quote
+pub record Node (i q : ℕ) (x : Thing) (xs : List Thing) : Type 0 where
+  pub cell : Cell i x xs
+  pub low : Low q (show x) xs
+
+module _ {A B : Type 0} {o : Before} {xs : List Thing} {Q : B → A → List Thing → Type 0} (f : Words → W B) where
+  pub opening-interval : {i : ℕ} {r : Interval} (g : Interval → M A) → Cell i (interval r) xs
+      → ((q : ℕ) → Node i q (interval I0) xs → Matches o xs (f (cell-by 16 0 0 0 q)) (g I0) Q)
+      → ((q : ℕ) → Node i q (interval I1) xs → Matches o xs (f (cell-by 17 0 0 0 q)) (g I1) Q)
+      → ((q n : ℕ) → Node i q (interval (Dim n)) xs → Matches o xs (f (cell-by 18 n 0 0 q)) (g (Dim n)) Q)
+      → ((q a : ℕ) (a′ : Interval) → Node i q (interval (Neg a′)) xs → Cell a (interval a′) xs → Matches o xs (f (cell-by 19 a 0 0 q)) (g (Neg a′)) Q)
+      → ((q a b : ℕ) (a′ b′ : Interval) → Node i q (interval (Meet a′ b′)) xs → Cell a (interval a′) xs → Cell b (interval b′) xs → Matches o xs (f (cell-by 20 a b 0 q)) (g (Meet a′ b′)) Q)
+      → ((q a b : ℕ) (a′ b′ : Interval) → Node i q (interval (Join a′ b′)) xs → Cell a (interval a′) xs → Cell b (interval b′) xs → Matches o xs (f (cell-by 21 a b 0 q)) (g (Join a′ b′)) Q)
+      → Matches o xs (open-cell i f) (g r) Q
+  opening-interval {i = i} g h on-0 on-1 on-dim on-neg on-meet on-join = opening tt h λ v s low. go (v .quote) s (record { cell = h; low = low })
+    where
+      go : {k a b c : ℕ} {r : Interval} (q : ℕ) → Shape xs k a b c (interval r) → Node i q (interval r) xs → Matches o xs (f (cell-by k a b c q)) (g r) Q
+      go q s-i0 n = on-0 q n
+      go q s-i1 n = on-1 q n
+      go q s-dim n = on-dim q _ n
+      go q (s-neg x) n = on-neg q _ _ n x
+      go q (s-meet x y) n = on-meet q _ _ _ _ n x y
+      go q (s-join x y) n = on-join q _ _ _ _ n x y
+
+  pub opening-term : {i : ℕ} {t : Term} (g : Term → M A) → Cell i (term t) xs
+      → ((q l : ℕ) → Node i q (term (Universe l)) xs → Matches o xs (f (cell-by 1 l 0 0 q)) (g (Universe l)) Q)
+      → ((q n : ℕ) → Node i q (term (Var n)) xs → Matches o xs (f (cell-by 2 n 0 0 q)) (g (Var n)) Q)
+      → ((q : ℕ) → Node i q (term Nat) xs → Matches o xs (f (cell-by 3 0 0 0 q)) (g Nat) Q)
+      → ((q : ℕ) → Node i q (term Zero) xs → Matches o xs (f (cell-by 4 0 0 0 q)) (g Zero) Q)
+      → ((q a b : ℕ) (a′ b′ : Term) → Node i q (term (Pi a′ b′)) xs → Cell a (term a′) xs → Cell b (term b′) xs → Matches o xs (f (cell-by 5 a b 0 q)) (g (Pi a′ b′)) Q)
+      → ((q a b : ℕ) (a′ b′ : Term) → Node i q (term (Lam a′ b′)) xs → Cell a (term a′) xs → Cell b (term b′) xs → Matches o xs (f (cell-by 6 a b 0 q)) (g (Lam a′ b′)) Q)
+      → ((q a b : ℕ) (a′ b′ : Term) → Node i q (term (App a′ b′)) xs → Cell a (term a′) xs → Cell b (term b′) xs → Matches o xs (f (cell-by 7 a b 0 q)) (g (App a′ b′)) Q)
+      → ((q a b c : ℕ) (a′ b′ c′ : Term) → Node i q (term (Path a′ b′ c′)) xs → Cell a (term a′) xs → Cell b (term b′) xs → Cell c (term c′) xs → Matches o xs (f (cell-by 8 a b c q)) (g (Path a′ b′ c′)) Q)
+      → ((q a b : ℕ) (a′ b′ : Term) → Node i q (term (PathLam a′ b′)) xs → Cell a (term a′) xs → Cell b (term b′) xs → Matches o xs (f (cell-by 9 a b 0 q)) (g (PathLam a′ b′)) Q)
+      → ((q a b : ℕ) (a′ : Term) (b′ : Interval) → Node i q (term (PathApp a′ b′)) xs → Cell a (term a′) xs → Cell b (interval b′) xs → Matches o xs (f (cell-by 10 a b 0 q)) (g (PathApp a′ b′)) Q)
+      → Matches o xs (open-cell i f) (g t) Q
+  opening-term {i = i} g h on-u on-v on-nat on-zero on-pi on-lam on-app on-path on-plam on-papp = opening tt h λ v s low. go (v .quote) s (record { cell = h; low = low })
+    where
+      go : {k a b c : ℕ} {t : Term} (q : ℕ) → Shape xs k a b c (term t) → Node i q (term t) xs → Matches o xs (f (cell-by k a b c q)) (g t) Q
+      go q s-universe n = on-u q _ n
+      go q s-var n = on-v q _ n
+      go q s-nat n = on-nat q n
+      go q s-zero n = on-zero q n
+      go q (s-pi x y) n = on-pi q _ _ _ _ n x y
+      go q (s-lam x y) n = on-lam q _ _ _ _ n x y
+      go q (s-app x y) n = on-app q _ _ _ _ n x y
+      go q (s-path x y z) n = on-path q _ _ _ _ _ _ n x y z
+      go q (s-plam x y) n = on-plam q _ _ _ _ n x y
+      go q (s-papp x y) n = on-papp q _ _ _ _ n x y
+
+  pub opening-context : {i : ℕ} {h : Context} (g : Context → M A) → Cell i (context h) xs
+      → ((q : ℕ) → Node i q (context Nil) xs → Matches o xs (f (cell-by 32 0 0 0 q)) (g Nil) Q)
+      → ((q a b : ℕ) (a′ : Term) (b′ : Context) → Node i q (context (Cons a′ b′)) xs → Cell a (term a′) xs → Cell b (context b′) xs → Matches o xs (f (cell-by 33 a b 0 q)) (g (Cons a′ b′)) Q)
+      → Matches o xs (open-cell i f) (g h) Q
+  opening-context {i = i} g h on-nil on-cons = opening tt h λ v s low. go (v .quote) s (record { cell = h; low = low })
+    where
+      go : {k a b c : ℕ} {h : Context} (q : ℕ) → Shape xs k a b c (context h) → Node i q (context h) xs → Matches o xs (f (cell-by k a b c q)) (g h) Q
+      go q s-nil n = on-nil q n
+      go q (s-cons x y) n = on-cons q _ _ _ _ n x y
+
+-- a term taken apart
+
+-- one that is neither a universe, a pi, a lam, a path nor a plam
+record Else (t : Term) : Type 0 where
+  no-level : level t ≡ none
+  no-pi : pi-parts t ≡ none
+  no-lam : lam-parts t ≡ none
+  no-path : path-parts t ≡ none
+  no-plam : plam-body t ≡ none
+
+data Parts (xs : List Thing) : Form → Term → Type 0 where
+  p-universe : {l : ℕ} → Parts xs (form-universe l) (Universe l)
+  p-pi : {a b : ℕ} {a′ b′ : Term} → Cell a (term a′) xs → Cell b (term b′) xs → Parts xs (form-pi a b) (Pi a′ b′)
+  p-lam : {a b : ℕ} {a′ b′ : Term} → Cell a (term a′) xs → Cell b (term b′) xs → Parts xs (form-lam a b) (Lam a′ b′)
+  p-path : {a b c : ℕ} {a′ b′ c′ : Term} → Cell a (term a′) xs → Cell b (term b′) xs → Cell c (term c′) xs → Parts xs (form-path a b c) (Path a′ b′ c′)
+  p-plam : {a b : ℕ} {a′ b′ : Term} → Cell a (term a′) xs → Cell b (term b′) xs → Parts xs (form-plam a b) (PathLam a′ b′)
+  p-else : {t : Term} → Else t → Parts xs form-other t
+
+parted : {xs : List Thing} {k a b c : ℕ} {t : Term} (q : ℕ) → Shape xs k a b c (term t) → Parts xs (shape-by (cell-by k a b c q)) t
+parted q s-universe = p-universe
+parted q s-var = p-else (record { no-level = refl; no-pi = refl; no-lam = refl; no-path = refl; no-plam = refl })
+parted q s-nat = p-else (record { no-level = refl; no-pi = refl; no-lam = refl; no-path = refl; no-plam = refl })
+parted q s-zero = p-else (record { no-level = refl; no-pi = refl; no-lam = refl; no-path = refl; no-plam = refl })
+parted q (s-pi x y) = p-pi x y
+parted q (s-lam x y) = p-lam x y
+parted q (s-app x y) = p-else (record { no-level = refl; no-pi = refl; no-lam = refl; no-path = refl; no-plam = refl })
+parted q (s-path x y z) = p-path x y z
+parted q (s-plam x y) = p-plam x y
+parted q (s-papp x y) = p-else (record { no-level = refl; no-pi = refl; no-lam = refl; no-path = refl; no-plam = refl })
+
+module _ {A B : Type 0} {o : Before} {xs : List Thing} {Q : B → A → List Thing → Type 0} where
+  taken : {i : ℕ} {t : Term} {d : M A} (f : Form → W B) → Cell i (term t) xs → ((p : Form) → Parts xs p t → Matches o xs (f p) d Q) → Matches o xs (λ w. f (shape-of (w .cells) i) w) d Q
+  unfolding shape-of
+  taken f c k = record { holds = λ w s e h. let r = read-cell tt c e h in rw (r .words) (k (shape-by (cell-by (r .kind) (r .a) (r .b) (r .c) (r .low))) (parted (r .low) (r .shape)) .holds w s e h) }
+
+  pub at-universe : {i : ℕ} {t : Term} {f : ℕ → W B} {z : W B} (g : ℕ → M A) (y : M A) → Cell i (term t) xs → ((l : ℕ) → Matches o xs (f l) (g l) Q) → Matches o xs z y Q → Matches o xs (C.at-universe i f z) (from level t get g or y) Q
+  unfolding C.at-universe on-universe from_get_or_
+  at-universe {f = f} {z = z} g y h k m = taken (λ p. on-universe p f z) h λ _ s. go s
+    where
+      go : {p : Form} {t : Term} → Parts xs p t → Matches o xs (on-universe p f z) (from level t get g or y) Q
+      go p-universe = k _
+      go (p-pi a b) = m
+      go (p-lam a b) = m
+      go (p-path a b c) = m
+      go (p-plam a b) = m
+      go (p-else e) = rw (e .no-level) m
+
+  pub at-pi : {i : ℕ} {t : Term} {f : ℕ → ℕ → W B} {z : W B} (g : Term × Term → M A) (y : M A) → Cell i (term t) xs → ((a b : ℕ) (a′ b′ : Term) → Cell a (term a′) xs → Cell b (term b′) xs → Matches o xs (f a b) (g (a′, b′)) Q) → Matches o xs z y Q → Matches o xs (C.at-pi i f z) (from pi-parts t get g or y) Q
+  unfolding C.at-pi on-pi from_get_or_
+  at-pi {f = f} {z = z} g y h k m = taken (λ p. on-pi p f z) h λ _ s. go s
+    where
+      go : {p : Form} {t : Term} → Parts xs p t → Matches o xs (on-pi p f z) (from pi-parts t get g or y) Q
+      go p-universe = m
+      go (p-pi a b) = k _ _ _ _ a b
+      go (p-lam a b) = m
+      go (p-path a b c) = m
+      go (p-plam a b) = m
+      go (p-else e) = rw (e .no-pi) m
+
+  pub at-lam : {i : ℕ} {t : Term} {f : ℕ → ℕ → W B} {z : W B} (g : Term × Term → M A) (y : M A) → Cell i (term t) xs → ((a b : ℕ) (a′ b′ : Term) → t ≡ Lam a′ b′ → Cell a (term a′) xs → Cell b (term b′) xs → Matches o xs (f a b) (g (a′, b′)) Q) → Matches o xs z y Q → Matches o xs (C.at-lam i f z) (from lam-parts t get g or y) Q
+  unfolding C.at-lam on-lam from_get_or_
+  at-lam {t = t} {f = f} {z = z} g y h k m = taken (λ p. on-lam p f z) h λ _ s. go refl s
+    where
+      go : {p : Form} {u : Term} → t ≡ u → Parts xs p u → Matches o xs (on-lam p f z) (from lam-parts u get g or y) Q
+      go q p-universe = m
+      go q (p-pi a b) = m
+      go q (p-lam a b) = k _ _ _ _ q a b
+      go q (p-path a b c) = m
+      go q (p-plam a b) = m
+      go q (p-else e) = rw (e .no-lam) m
+
+  pub at-path : {i : ℕ} {t : Term} {f : ℕ → ℕ → ℕ → W B} {z : W B} (g : Term × Term × Term → M A) (y : M A) → Cell i (term t) xs → ((a b e : ℕ) (a′ b′ e′ : Term) → Cell a (term a′) xs → Cell b (term b′) xs → Cell e (term e′) xs → Matches o xs (f a b e) (g (a′, b′, e′)) Q) → Matches o xs z y Q → Matches o xs (C.at-path i f z) (from path-parts t get g or y) Q
+  unfolding C.at-path on-path from_get_or_
+  at-path {f = f} {z = z} g y h k m = taken (λ p. on-path p f z) h λ _ s. go s
+    where
+      go : {p : Form} {t : Term} → Parts xs p t → Matches o xs (on-path p f z) (from path-parts t get g or y) Q
+      go p-universe = m
+      go (p-pi a b) = m
+      go (p-lam a b) = m
+      go (p-path a b c) = k _ _ _ _ _ _ a b c
+      go (p-plam a b) = m
+      go (p-else e) = rw (e .no-path) m
+
+  pub at-plam : {i : ℕ} {t : Term} {f : ℕ → W B} {z : W B} (g : Term → M A) (y : M A) → Cell i (term t) xs → ((b : ℕ) (b′ : Term) → Cell b (term b′) xs → Matches o xs (f b) (g b′) Q) → Matches o xs z y Q → Matches o xs (C.at-plam i f z) (from plam-body t get g or y) Q
+  unfolding C.at-plam on-plam from_get_or_
+  at-plam {f = f} {z = z} g y h k m = taken (λ p. on-plam p f z) h λ _ s. go s
+    where
+      go : {p : Form} {t : Term} → Parts xs p t → Matches o xs (on-plam p f z) (from plam-body t get g or y) Q
+      go p-universe = m
+      go (p-pi a b) = m
+      go (p-lam a b) = m
+      go (p-path a b c) = m
+      go (p-plam a b) = k _ _ b
+      go (p-else e) = rw (e .no-plam) m
+
+-- two cells with one quote, or not
+
+quote-test : {xs : List Thing} {p q : ℕ} {t r : Quote} → Low p (a-quote t) xs → Low q (a-quote r) xs → eqb p q ≡ yes? (quote? t r)
+quote-test {p = p} {q = q} {t = t} {r = r} h k = decides (eqb p q) (quote? t r) to back
+  where
+    to : eqb p q ≡ true → t ≡ r
+    to e = let f : p ≡ q = eqb→eq p q (rw e tt) in let g = low-same h (rw (← f) at k) in cc
+
+    back : t ≡ r → eqb p q ≡ true
+    back e = let f : p ≡ q = low-number h (rw (← e) at k) in rw f (eqb-self q)
+
+pub same-quote : {A B : Type 0} {o : Before} {xs : List Thing} {Q : B → A → List Thing → Type 0} {i j : ℕ} {t u : Term} {m n : W B} {d e : M A} → Cell i (term t) xs → Cell j (term u) xs → Matches o xs m d Q → Matches o xs n e Q → Matches o xs (C.same-quote i j m n) (if quote? (quote t) (quote u) then d else e) Q
+unfolding C.same-quote same-quote-of
+same-quote {i = i} {j = j} {t = t} {u = u} h k f g = record {
+  holds = λ w s e z.
+      let p = read-cell tt h e z in
+      let q = read-cell tt k e z in
+      rw (quote-is p, quote-is q) (branch (eqb (p .low) (q .low)) (quote? (quote t) (quote u)) (quote-test (p .lowest) (q .lowest)) (λ _. f) (λ _. g) .holds w s e z);
+}

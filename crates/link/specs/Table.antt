@@ -1,0 +1,220 @@
+-- The table, read back from the words: each row's rule, the rows that it cites, and its judgment, by quote through the cells;
+-- none where the words hold no such thing. And what the words of a row and of an answer are. Assumes nothing.
+use Prim.Native.Nat.{ℕ, suc, _+_, _*_, _<_}
+use mathlib.Core.Path.{_≡_}
+use mathlib.Core.List.{List, [], _∷_, _++_}
+use mathlib.Core.Option.{Option, none, some}
+use mathlib.Core.Bool.{true, false}
+use lib.ListN.{length, getD, take, replicate}
+use lib.Dec.{ltb}
+use Rattle.walk.specs.Syntax.{Interval, I0, I1, Dim, Neg, Meet, Join, Quote, u, v, nat, zero, pi, lam, app, path, plam, papp, Quotes, nil, cons, quote}
+use Rattle.walk.specs.Judgment.{Judgment, ctx, dshiftctx, lookup, lt, le, max, interval, ishift, isubst, shift, subst, dshift, dsubst, has, eq}
+use Rattle.walk.specs.Reader.{Kind, k-u, k-v, k-nat, k-zero, k-pi, k-lam, k-app, k-path, k-plam, k-papp, IKind, k-0, k-1, k-dim, k-neg, k-meet, k-join, kinds, ikinds}
+use Rattle.walk.specs.State.{Row}
+use Rattle.walk.specs.Run.{Result, no-result, a-level, a-term, Answer}
+
+infixl 20 _>>=_
+unfoldable pub _>>=_ : {A B : Type 0} → Option A → (A → Option B) → Option B
+_>>=_ (some a) f = f a
+_>>=_ none f = none
+
+-- cells: eight words, of which the first is the kind and the next three are the parts
+
+abbrev pub kind-word : List ℕ → ℕ → ℕ
+kind-word C n = getD C (n * 8) 0
+
+abbrev pub part : ℕ → List ℕ → ℕ → ℕ
+part i C n = getD C (n * 8 + i) 0
+
+-- Kinds as in a run's bytes: a cell of a kind, over what its parts are.
+unfoldable pub interval-by : (ℕ → Option Interval) → IKind → (a b : ℕ) → Option Interval
+interval-by at k-0 a b = some I0
+interval-by at k-1 a b = some I1
+interval-by at k-dim a b = some (Dim a)
+interval-by at k-neg a b = at a >>= λ r. some (Neg r)
+interval-by at k-meet a b = at a >>= λ r. at b >>= λ q. some (Meet r q)
+interval-by at k-join a b = at a >>= λ r. at b >>= λ q. some (Join r q)
+
+-- A lam's and a plam's annotation, their first part, is not quoted.
+unfoldable pub quote-by : (ℕ → Option Quote) → (ℕ → Option Interval) → Kind → (a b c : ℕ) → Option Quote
+quote-by at iat k-u a b c = some (u a)
+quote-by at iat k-v a b c = some (v a)
+quote-by at iat k-nat a b c = some nat
+quote-by at iat k-zero a b c = some zero
+quote-by at iat k-pi a b c = at a >>= λ x. at b >>= λ y. some (pi x y)
+quote-by at iat k-lam a b c = at b >>= λ y. some (lam y)
+quote-by at iat k-app a b c = at a >>= λ x. at b >>= λ y. some (app x y)
+quote-by at iat k-path a b c = at a >>= λ x. at b >>= λ y. at c >>= λ z. some (path x y z)
+quote-by at iat k-plam a b c = at b >>= λ y. some (plam y)
+quote-by at iat k-papp a b c = at a >>= λ x. iat b >>= λ r. some (papp x r)
+
+-- A context is 32, or 33 with its last type and its rest.
+pub data CKind : Type 0 where
+  k-nil k-cons : CKind
+
+abbrev pub ckinds : List (Option CKind)
+ckinds = replicate 32 none ++ some k-nil ∷ some k-cons ∷ []
+
+unfoldable pub context-by : (ℕ → Option Quotes) → (ℕ → Option Quote) → CKind → (a b : ℕ) → Option Quotes
+context-by at qat k-nil a b = some nil
+context-by at qat k-cons a b = qat a >>= λ x. at b >>= λ g. some (cons x g)
+
+-- The first argument bounds the depth: a part has a lower number, so as many as there are cells are enough.
+unfoldable pub interval-at : ℕ → List ℕ → ℕ → Option Interval
+interval-at ℕ.zero C n = none
+interval-at (ℕ.suc f) C n = getD ikinds (kind-word C n) none >>= λ k. interval-by (λ i. interval-at f C i) k (part 1 C n) (part 2 C n)
+
+unfoldable pub quote-at : ℕ → List ℕ → ℕ → Option Quote
+quote-at ℕ.zero C n = none
+quote-at (ℕ.suc f) C n = getD kinds (kind-word C n) none >>= λ k. quote-by (λ i. quote-at f C i) (λ i. interval-at f C i) k (part 1 C n) (part 2 C n) (part 3 C n)
+
+unfoldable pub context-at : ℕ → List ℕ → ℕ → Option Quotes
+context-at ℕ.zero C n = none
+context-at (ℕ.suc f) C n = getD ckinds (kind-word C n) none >>= λ k. context-by (λ i. context-at f C i) (λ i. quote-at f C i) k (part 1 C n) (part 2 C n)
+
+-- arguments: a cell below the n that are used, by quote
+
+abbrev pub below : {A : Type 0} → (ℕ → List ℕ → ℕ → Option A) → ℕ → List ℕ → ℕ → Option A
+below at n C i = elim (ltb i n) [ true ↦ at n C i | false ↦ none ]
+
+abbrev pub an-interval : ℕ → List ℕ → ℕ → Option Interval
+an-interval = below interval-at
+
+abbrev pub a-quote : ℕ → List ℕ → ℕ → Option Quote
+a-quote = below quote-at
+
+abbrev pub a-context : ℕ → List ℕ → ℕ → Option Quotes
+a-context = below context-at
+
+-- each kind of judgment, from the five argument words
+
+abbrev pub Reads : Type 0
+Reads = ℕ → List ℕ → (a b c d e : ℕ) → Option Judgment
+
+unfoldable pub read-ctx : Reads
+read-ctx n C d g _ _ _ = a-context n C g >>= λ g. some (ctx d g)
+
+unfoldable pub read-dshiftctx : Reads
+read-dshiftctx n C g k h _ _ = a-context n C g >>= λ g. a-context n C h >>= λ h. some (dshiftctx g k h)
+
+unfoldable pub read-lookup : Reads
+read-lookup n C g k t _ _ = a-context n C g >>= λ g. a-quote n C t >>= λ t. some (lookup g k t)
+
+unfoldable pub read-lt : Reads
+read-lt n C i j _ _ _ = some (lt i j)
+
+unfoldable pub read-le : Reads
+read-le n C i j _ _ _ = some (le i j)
+
+unfoldable pub read-max : Reads
+read-max n C i j k _ _ = some (max i j k)
+
+unfoldable pub read-interval : Reads
+read-interval n C d r _ _ _ = an-interval n C r >>= λ r. some (interval d r)
+
+unfoldable pub read-ishift : Reads
+read-ishift n C r k s _ _ = an-interval n C r >>= λ r. an-interval n C s >>= λ s. some (ishift r k s)
+
+unfoldable pub read-isubst : Reads
+read-isubst n C r k q s _ = an-interval n C r >>= λ r. an-interval n C q >>= λ q. an-interval n C s >>= λ s. some (isubst r k q s)
+
+unfoldable pub read-shift : Reads
+read-shift n C t k s _ _ = a-quote n C t >>= λ t. a-quote n C s >>= λ s. some (shift t k s)
+
+unfoldable pub read-subst : Reads
+read-subst n C t k r s _ = a-quote n C t >>= λ t. a-quote n C r >>= λ r. a-quote n C s >>= λ s. some (subst t k r s)
+
+unfoldable pub read-dshift : Reads
+read-dshift n C t k s _ _ = a-quote n C t >>= λ t. a-quote n C s >>= λ s. some (dshift t k s)
+
+unfoldable pub read-dsubst : Reads
+read-dsubst n C t k r s _ = a-quote n C t >>= λ t. an-interval n C r >>= λ r. a-quote n C s >>= λ s. some (dsubst t k r s)
+
+unfoldable pub read-has : Reads
+read-has n C d g t a _ = a-context n C g >>= λ g. a-quote n C t >>= λ t. a-quote n C a >>= λ a. some (has d g t a)
+
+unfoldable pub read-eq : Reads
+read-eq n C d g a b t = a-context n C g >>= λ g. a-quote n C a >>= λ a. a-quote n C b >>= λ b. a-quote n C t >>= λ t. some (eq d g a b t)
+
+unfoldable pub no-reading : Reads
+no-reading n C a b c d e = none
+
+-- the kind that each rule concludes, in the order of the rules
+abbrev pub concluding : List Reads
+concluding = replicate 2 read-ctx ++ replicate 2 read-dshiftctx ++ replicate 2 read-lookup ++ replicate 2 read-lt ++ replicate 2 read-le ++ replicate 3 read-max ++ replicate 6 read-interval ++ replicate 7 read-ishift ++ replicate 8 read-isubst ++ replicate 11 read-shift ++ replicate 12 read-subst ++ replicate 10 read-dshift ++ replicate 10 read-dsubst ++ replicate 11 read-has ++ replicate 7 read-eq
+
+-- rows: 24 words, as document 01 has them
+
+abbrev pub row-word : ℕ → List ℕ → ℕ → ℕ
+row-word k R i = getD R (i * 24 + k) 0
+
+unfoldable pub cited-at : List ℕ → ℕ → List ℕ
+cited-at R i = take (row-word 1 R i) (row-word 2 R i ∷ row-word 3 R i ∷ row-word 4 R i ∷ row-word 5 R i ∷ row-word 6 R i ∷ row-word 7 R i ∷ row-word 8 R i ∷ row-word 9 R i ∷ row-word 10 R i ∷ row-word 11 R i ∷ [])
+
+unfoldable pub row-at : ℕ → List ℕ → List ℕ → ℕ → Option Row
+row-at n R C i = getD concluding (row-word 0 R i) no-reading n C (row-word 13 R i) (row-word 14 R i) (row-word 15 R i) (row-word 16 R i) (row-word 17 R i) >>= λ j. some (record { rule = row-word 0 R i; refs = cited-at R i; judgment = j })
+
+-- so many rows, over so many cells, the newest first
+unfoldable pub table-at : (rows cells : ℕ) → List ℕ → List ℕ → Option (List Row)
+table-at ℕ.zero n R C = some []
+table-at (ℕ.suc i) n R C = row-at n R C i >>= λ r. table-at i n R C >>= λ rs. some (r ∷ rs)
+
+-- what stands in a row's words, each as document 01 has it
+
+-- an argument: a number as itself, else a cell in use with the quote
+pub data Argument : Type 0 where
+  number : ℕ → Argument
+  of-interval : Interval → Argument
+  of-quote : Quote → Argument
+  of-context : Quotes → Argument
+
+abbrev pub Stands-for : ℕ → List ℕ → ℕ → Argument → Type 0
+Stands-for n C w (number m) = w ≡ m
+Stands-for n C w (of-interval r) = an-interval n C w ≡ some r
+Stands-for n C w (of-quote t) = a-quote n C w ≡ some t
+Stands-for n C w (of-context g) = a-context n C w ≡ some g
+
+abbrev pub arguments : Judgment → List Argument
+arguments (ctx d g) = number d ∷ of-context g ∷ []
+arguments (dshiftctx g k h) = of-context g ∷ number k ∷ of-context h ∷ []
+arguments (lookup g n t) = of-context g ∷ number n ∷ of-quote t ∷ []
+arguments (lt m n) = number m ∷ number n ∷ []
+arguments (le m n) = number m ∷ number n ∷ []
+arguments (max m n k) = number m ∷ number n ∷ number k ∷ []
+arguments (interval d r) = number d ∷ of-interval r ∷ []
+arguments (ishift r k q) = of-interval r ∷ number k ∷ of-interval q ∷ []
+arguments (isubst r k q p) = of-interval r ∷ number k ∷ of-interval q ∷ of-interval p ∷ []
+arguments (shift t k r) = of-quote t ∷ number k ∷ of-quote r ∷ []
+arguments (subst t k r p) = of-quote t ∷ number k ∷ of-quote r ∷ of-quote p ∷ []
+arguments (dshift t k r) = of-quote t ∷ number k ∷ of-quote r ∷ []
+arguments (dsubst t k r p) = of-quote t ∷ number k ∷ of-interval r ∷ of-quote p ∷ []
+arguments (has d g t a) = number d ∷ of-context g ∷ of-quote t ∷ of-quote a ∷ []
+arguments (eq d g a b t) = number d ∷ of-context g ∷ of-quote a ∷ of-quote b ∷ of-quote t ∷ []
+
+-- over n cells, the words of row i are those of r; unused places are 0
+pub record Row-words (n : ℕ) (R C : List ℕ) (i : ℕ) (r : Row) : Type 0 where
+  pub rule : row-word 0 R i ≡ r .rule
+  pub cited : row-word 1 R i ≡ length (r .refs)
+  pub places : (k : ℕ) → k < 10 → row-word (2 + k) R i ≡ getD (r .refs) k 0
+  pub count : row-word 12 R i ≡ length (arguments (r .judgment))
+  pub judgment : (k : ℕ) → k < 5 → Stands-for n C (row-word (13 + k) R i) (getD (arguments (r .judgment)) k (number 0))
+
+-- what stands in the words of an answer
+
+-- the result: 0, a level, or a cell in use with the quote of a term
+abbrev pub Result-word : ℕ → List ℕ → ℕ → Result → Type 0
+Result-word n C w no-result = w ≡ 0
+Result-word n C w (a-level l) = w ≡ l
+Result-word n C w (a-term t) = a-quote n C w ≡ some (quote t)
+
+-- over n cells, the four words of answer k are those of a
+pub record Answer-words (n : ℕ) (C A : List ℕ) (k : ℕ) (a : Answer) : Type 0 where
+  pub number : getD A (k * 4) 0 ≡ a .number
+  pub row : getD A (k * 4 + 1) 0 ≡ a .row
+  pub result : Result-word n C (getD A (k * 4 + 2) 0) (a .result)
+  pub deepest : getD A (k * 4 + 3) 0 ≡ a .deepest
+
+-- answer k is a
+pub data Answer-at (a : Answer) : ℕ → List Answer → Type 0 where
+  this-answer : {answers : List Answer} → Answer-at a 0 (a ∷ answers)
+  later-answer : {k : ℕ} {b : Answer} {answers : List Answer} → Answer-at a k answers → Answer-at a (suc k) (b ∷ answers)

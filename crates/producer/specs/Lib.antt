@@ -1,0 +1,10 @@
+pub mod Machine
+pub mod Answers
+pub mod Callees
+pub mod Numbers
+pub mod Intervals
+pub mod Transforms
+pub mod Contexts
+pub mod Typing
+pub mod Equality
+pub mod Calls

@@ -1,0 +1,406 @@
+-- The machine over words, and its steps: what a method of `State` is proved equal to. A term is the number of its cell.
+-- A row: 24 words as document 01 has them; its first working word is free, the second is the judgment's kind. Assumes nothing.
+use Prim.Native.Nat.{ℕ, zero, suc, _+_, _*_, _-_}
+use mathlib.Core.Bool.{Bool, true, false}
+use mathlib.Core.List.{List, [], _∷_}
+use mathlib.Core.Option.{Option, none, some}
+use lib.ListN.{getD}
+use lib.Seq.{sets}
+use lib.Dec.{ltb, leb, eqb}
+use Rattle.ast.specs.Words.{ifb, up, greater-of, all-eq}
+use Rattle.ast.specs.Cells.{on-found, first-of, last-of, cell-of, quote-of, same-quote-of, shape-of, same-node, lowest-of, recall-of}
+use Rattle.ast.specs.declared.cells.Cell.{Cell}
+use Rattle.ast.specs.declared.cells.Shape.{Shape}
+use Rattle.ast.specs.declared.cells.Shape.the-variants.{Universe, Pi, Lam, Path, Plam, Other}
+use Rattle.ast.specs.declared.cells.Found.{Found}
+use Rattle.ast.specs.declared.cells.Found.the-variants.{At, Nothing}
+use Rattle.ast.specs.declared.cells.Recalled.{Recalled}
+use Rattle.ast.specs.declared.cells.Recalled.the-variants.{Known, Unknown}
+use Rattle.producer.specs.declared.state.State.{State}
+use Rattle.producer.specs.declared.rows.Refs.{Refs}
+use Rattle.producer.specs.declared.transforms.Op.{Op}
+use Rattle.producer.specs.declared.state.Done.{Done}
+use Rattle.producer.specs.declared.state.Done.the-variants as done
+use Rattle.producer.specs.declared.state.Got.{Got}
+use Rattle.producer.specs.declared.state.Got.the-variants as got
+use Rattle.producer.specs.declared.state.Two.{Two}
+use Rattle.producer.specs.declared.state.Two.the-variants as two
+use Rattle.producer.specs.declared.state.Function.{Function}
+use Rattle.producer.specs.declared.state.Function.the-variants as function
+use Rattle.producer.specs.declared.state.Four.{Four}
+use Rattle.producer.specs.declared.state.Four.the-variants as four
+use Rattle.producer.specs.declared.state.Cited.{Cited}
+use Rattle.producer.specs.declared.state.Cited.the-variants as cited
+use Rattle.producer.specs.declared.state.Inferred.{Inferred}
+use Rattle.producer.specs.declared.state.Inferred.the-variants as inferred
+use Rattle.producer.specs.declared.state.Reduced.{Reduced}
+use Rattle.producer.specs.declared.state.Reduced.the-variants as reduced
+use Rattle.producer.specs.declared.state.Round.{Round}
+use Rattle.producer.specs.declared.state.Round.the-variants as round
+use Rattle.producer.specs.declared.transforms.Inner.{Inner}
+use Rattle.producer.specs.declared.transforms.Inner.the-variants as inner
+
+-- the words of both slices, and the counts
+pub record Machine : Type 0 where
+  pub rows : List ℕ
+  pub cells : List ℕ
+  pub state : State
+
+abbrev pub machine : List ℕ → List ℕ → State → Machine
+machine R C s = record { rows = R; cells = C; state = s }
+
+-- what a step ends in
+pub data Result (A : Type 0) : Type 0 where
+  is : A → Machine → Result A
+  not : ℕ → Machine → Result A
+
+abbrev pub W : Type 0 → Type 0
+W A = Machine → Result A
+
+unfoldable pub next : {A B : Type 0} → Result A → (A → W B) → Result B
+next (is a w) f = f a w
+next (not n w) f = not n w
+
+infixl 20 _>>=_
+unfoldable pub _>>=_ : {A B : Type 0} → W A → (A → W B) → W B
+_>>=_ m f = λ w. next (m w) f
+
+unfoldable pub give : {A : Type 0} → A → W A
+give a = λ w. is a w
+
+unfoldable pub stop : {A : Type 0} → ℕ → W A
+stop n = λ w. not n w
+
+infix 10 when_then_else_
+unfoldable pub when_then_else_ : {A : Type 0} → Bool → W A → W A → W A
+when_then_else_ true x y = x
+when_then_else_ false x y = y
+
+-- a step of `reduce`: the term, its type, and the row of the equation
+pub record Reduction : Type 0 where
+  pub term : ℕ
+  pub type : ℕ
+  pub row : ℕ
+
+-- what `infer` finds for a term: its type, and the rows and the rule by which it has it
+pub record Finding : Type 0 where
+  pub type : ℕ
+  pub refs : Refs
+  pub rule : ℕ
+
+-- the methods' answers, with the words that they leave, as ends of steps
+
+unfoldable pub end-0 : Done → List ℕ → List ℕ → Result (Unit {0})
+end-0 (done.Ready s) R C = is tt (machine R C s)
+end-0 (done.Refused s e) R C = not e (machine R C s)
+
+unfoldable pub end : Got → List ℕ → List ℕ → Result ℕ
+end (got.Is s x) R C = is x (machine R C s)
+end (got.Refused s e) R C = not e (machine R C s)
+
+unfoldable pub end-2 : Two → List ℕ → List ℕ → Result (ℕ × ℕ)
+end-2 (two.Pair s x y) R C = is (x, y) (machine R C s)
+end-2 (two.Refused s e) R C = not e (machine R C s)
+
+unfoldable pub end-3 : Function → List ℕ → List ℕ → Result (ℕ × ℕ × ℕ)
+end-3 (function.Of s x y z) R C = is (x, y, z) (machine R C s)
+end-3 (function.Refused s e) R C = not e (machine R C s)
+
+unfoldable pub end-4 : Four → List ℕ → List ℕ → Result (ℕ × ℕ × ℕ × ℕ)
+end-4 (four.Each s x y z u) R C = is (x, y, z, u) (machine R C s)
+end-4 (four.Refused s e) R C = not e (machine R C s)
+
+unfoldable pub end-cited : Cited → List ℕ → List ℕ → Result (ℕ × Refs)
+end-cited (cited.With s x l) R C = is (x, l) (machine R C s)
+end-cited (cited.Refused s e) R C = not e (machine R C s)
+
+unfoldable pub end-inner : Inner → List ℕ → List ℕ → Result (Op × Refs)
+end-inner (inner.Within s op l) R C = is (op, l) (machine R C s)
+end-inner (inner.Refused s e) R C = not e (machine R C s)
+
+unfoldable pub end-found : Inferred → List ℕ → List ℕ → Result Finding
+end-found (inferred.Has s ty l rule) R C = is (record { type = ty; refs = l; rule = rule }) (machine R C s)
+end-found (inferred.Refused s e) R C = not e (machine R C s)
+
+unfoldable pub end-step : Reduced → List ℕ → List ℕ → Result (Option Reduction)
+end-step (reduced.Step s t ty row) R C = is (some (record { term = t; type = ty; row = row })) (machine R C s)
+end-step (reduced.Whole s) R C = is none (machine R C s)
+end-step (reduced.Refused s e) R C = not e (machine R C s)
+
+unfoldable pub end-round : Round → List ℕ → List ℕ → Result (Option (ℕ × ℕ))
+end-round (round.Next s t row) R C = is (some (t, row)) (machine R C s)
+end-round (round.Over s) R C = is none (machine R C s)
+end-round (round.Refused s e) R C = not e (machine R C s)
+
+-- cells
+
+-- the kind and the parts of a cell, with the lowest cell of its quote
+unfoldable pub open-cell : {A : Type 0} → ℕ → (Cell → W A) → W A
+open-cell i f = λ w. f (cell-of (w .cells) i) w
+
+-- the lowest cell with the quote of a cell
+unfoldable pub lowest : {A : Type 0} → ℕ → (ℕ → W A) → W A
+lowest i f = λ w. f (quote-of (w .cells) i) w
+
+-- two cells with one quote
+unfoldable pub same-quote : {A : Type 0} → ℕ → ℕ → W A → W A → W A
+same-quote i j x y = λ w. (when same-quote-of (w .cells) i j then x else y) w
+
+-- a cell of one kind
+
+unfoldable pub on-universe : {A : Type 0} → Shape → (ℕ → W A) → W A → W A
+on-universe (Universe n) f z = f n
+on-universe (Pi a b) f z = z
+on-universe (Lam a b) f z = z
+on-universe (Path a b c) f z = z
+on-universe (Plam a b) f z = z
+on-universe Other f z = z
+
+unfoldable pub on-pi : {A : Type 0} → Shape → (ℕ → ℕ → W A) → W A → W A
+on-pi (Universe n) f z = z
+on-pi (Pi a b) f z = f a b
+on-pi (Lam a b) f z = z
+on-pi (Path a b c) f z = z
+on-pi (Plam a b) f z = z
+on-pi Other f z = z
+
+unfoldable pub on-lam : {A : Type 0} → Shape → (ℕ → ℕ → W A) → W A → W A
+on-lam (Universe n) f z = z
+on-lam (Pi a b) f z = z
+on-lam (Lam a b) f z = f a b
+on-lam (Path a b c) f z = z
+on-lam (Plam a b) f z = z
+on-lam Other f z = z
+
+unfoldable pub on-path : {A : Type 0} → Shape → (ℕ → ℕ → ℕ → W A) → W A → W A
+on-path (Universe n) f z = z
+on-path (Pi a b) f z = z
+on-path (Lam a b) f z = z
+on-path (Path a b c) f z = f a b c
+on-path (Plam a b) f z = z
+on-path Other f z = z
+
+unfoldable pub on-plam : {A : Type 0} → Shape → (ℕ → W A) → W A → W A
+on-plam (Universe n) f z = z
+on-plam (Pi a b) f z = z
+on-plam (Lam a b) f z = z
+on-plam (Path a b c) f z = z
+on-plam (Plam a b) f z = f b
+on-plam Other f z = z
+
+unfoldable pub at-universe : {A : Type 0} → ℕ → (ℕ → W A) → W A → W A
+at-universe i f z = λ w. on-universe (shape-of (w .cells) i) f z w
+
+unfoldable pub at-pi : {A : Type 0} → ℕ → (ℕ → ℕ → W A) → W A → W A
+at-pi i f z = λ w. on-pi (shape-of (w .cells) i) f z w
+
+unfoldable pub at-lam : {A : Type 0} → ℕ → (ℕ → ℕ → W A) → W A → W A
+at-lam i f z = λ w. on-lam (shape-of (w .cells) i) f z w
+
+unfoldable pub at-path : {A : Type 0} → ℕ → (ℕ → ℕ → ℕ → W A) → W A → W A
+at-path i f z = λ w. on-path (shape-of (w .cells) i) f z w
+
+unfoldable pub at-plam : {A : Type 0} → ℕ → (ℕ → W A) → W A → W A
+at-plam i f z = λ w. on-plam (shape-of (w .cells) i) f z w
+
+abbrev pub one-more-cell : State → State
+one-more-cell s = record { rows = s .rows; cells = s .cells + 1; conversions = s .conversions; deepest = s .deepest; limit = s .limit; rowroom = s .rowroom; cellroom = s .cellroom }
+
+unfoldable pub add-cell : List ℕ → Machine → Machine
+add-cell ws w = machine (w .rows) (sets (w .cells) (w .state .cells * 8) ws) (one-more-cell (w .state))
+
+unfoldable pub new-cell : (k a b c : ℕ) → W ℕ
+new-cell k a b c = λ w.
+    ifb (ltb (w .state .cells) (w .state .cellroom))
+    (is (w .state .cells) (add-cell (k ∷ a ∷ b ∷ c ∷ lowest-of (w .cells) (w .state .cells) k a b c ∷ 0 ∷ 0 ∷ 0 ∷ []) w))
+    (not 20 w)
+
+-- what is found, or else what follows
+unfoldable pub known-or : Found → W ℕ → W ℕ
+known-or (At n) m = give n
+known-or Nothing m = m
+
+-- the cell with a kind and parts
+unfoldable pub intern : (k a b c : ℕ) → W ℕ
+intern k a b c = λ w. known-or (first-of (same-node (w .cells) k a b c) (w .state .cells)) (new-cell k a b c) w
+
+abbrev pub make-universe : ℕ → W ℕ
+make-universe n = intern 1 n 0 0
+
+abbrev pub make-var : ℕ → W ℕ
+make-var n = intern 2 n 0 0
+
+abbrev pub make-nat : W ℕ
+make-nat = intern 3 0 0 0
+
+abbrev pub make-pi : ℕ → ℕ → W ℕ
+make-pi a b = intern 5 a b 0
+
+abbrev pub make-lam : ℕ → ℕ → W ℕ
+make-lam a b = intern 6 a b 0
+
+abbrev pub make-app : ℕ → ℕ → W ℕ
+make-app f a = intern 7 f a 0
+
+abbrev pub make-path : ℕ → ℕ → ℕ → W ℕ
+make-path a b c = intern 8 a b c
+
+abbrev pub make-plam : ℕ → ℕ → W ℕ
+make-plam a b = intern 9 a b 0
+
+abbrev pub make-papp : ℕ → ℕ → W ℕ
+make-papp p r = intern 10 p r 0
+
+abbrev pub make-i0 : W ℕ
+make-i0 = intern 16 0 0 0
+
+abbrev pub make-i1 : W ℕ
+make-i1 = intern 17 0 0 0
+
+abbrev pub make-dim : ℕ → W ℕ
+make-dim n = intern 18 n 0 0
+
+abbrev pub make-neg : ℕ → W ℕ
+make-neg a = intern 19 a 0 0
+
+abbrev pub make-meet : ℕ → ℕ → W ℕ
+make-meet a b = intern 20 a b 0
+
+abbrev pub make-join : ℕ → ℕ → W ℕ
+make-join a b = intern 21 a b 0
+
+abbrev pub make-nil : W ℕ
+make-nil = intern 32 0 0 0
+
+-- the last type, then the rest
+abbrev pub make-cons : ℕ → ℕ → W ℕ
+make-cons a g = intern 33 a g 0
+
+-- rows
+
+-- the rows that a row cites
+
+unfoldable pub no-refs : Refs
+no-refs = record { count = 0; r0 = 0; r1 = 0; r2 = 0; r3 = 0; r4 = 0; r5 = 0; r6 = 0; r7 = 0; r8 = 0; r9 = 0 }
+
+unfoldable pub cons-refs : ℕ → Refs → Refs
+cons-refs x l = record { count = up (l .count); r0 = x; r1 = l .r0; r2 = l .r1; r3 = l .r2; r4 = l .r3; r5 = l .r4; r6 = l .r5; r7 = l .r6; r8 = l .r7; r9 = l .r8 }
+
+-- the first row of the one, where it has any, before the other
+unfoldable pub join-refs : Refs → Refs → Refs
+join-refs k l = ifb (eqb (k .count) 0) l (cons-refs (k .r0) l)
+
+unfoldable pub refs-1 : ℕ → Refs
+refs-1 x = record { count = 1; r0 = x; r1 = 0; r2 = 0; r3 = 0; r4 = 0; r5 = 0; r6 = 0; r7 = 0; r8 = 0; r9 = 0 }
+
+unfoldable pub refs-2 : (x y : ℕ) → Refs
+refs-2 x y = record { count = 2; r0 = x; r1 = y; r2 = 0; r3 = 0; r4 = 0; r5 = 0; r6 = 0; r7 = 0; r8 = 0; r9 = 0 }
+
+unfoldable pub refs-3 : (x y z : ℕ) → Refs
+refs-3 x y z = record { count = 3; r0 = x; r1 = y; r2 = z; r3 = 0; r4 = 0; r5 = 0; r6 = 0; r7 = 0; r8 = 0; r9 = 0 }
+
+unfoldable pub refs-4 : (x y z u : ℕ) → Refs
+refs-4 x y z u = record { count = 4; r0 = x; r1 = y; r2 = z; r3 = u; r4 = 0; r5 = 0; r6 = 0; r7 = 0; r8 = 0; r9 = 0 }
+
+unfoldable pub refs-5 : (x y z u v : ℕ) → Refs
+refs-5 x y z u v = record { count = 5; r0 = x; r1 = y; r2 = z; r3 = u; r4 = v; r5 = 0; r6 = 0; r7 = 0; r8 = 0; r9 = 0 }
+
+unfoldable pub refs-6 : (x₀ x₁ x₂ x₃ x₄ x₅ : ℕ) → Refs
+refs-6 x₀ x₁ x₂ x₃ x₄ x₅ = record { count = 6; r0 = x₀; r1 = x₁; r2 = x₂; r3 = x₃; r4 = x₄; r5 = x₅; r6 = 0; r7 = 0; r8 = 0; r9 = 0 }
+
+unfoldable pub refs-7 : (x₀ x₁ x₂ x₃ x₄ x₅ x₆ : ℕ) → Refs
+refs-7 x₀ x₁ x₂ x₃ x₄ x₅ x₆ = record { count = 7; r0 = x₀; r1 = x₁; r2 = x₂; r3 = x₃; r4 = x₄; r5 = x₅; r6 = x₆; r7 = 0; r8 = 0; r9 = 0 }
+
+unfoldable pub refs-10 : (x₀ x₁ x₂ x₃ x₄ x₅ x₆ x₇ x₈ x₉ : ℕ) → Refs
+refs-10 x₀ x₁ x₂ x₃ x₄ x₅ x₆ x₇ x₈ x₉ = record { count = 10; r0 = x₀; r1 = x₁; r2 = x₂; r3 = x₃; r4 = x₄; r5 = x₅; r6 = x₆; r7 = x₇; r8 = x₈; r9 = x₉ }
+
+abbrev pub row-block : ℕ → Refs → (kind count a b c d e : ℕ) → List ℕ
+row-block rule l kind count a b c d e = rule ∷ l .count ∷ l .r0 ∷ l .r1 ∷ l .r2 ∷ l .r3 ∷ l .r4 ∷ l .r5 ∷ l .r6 ∷ l .r7 ∷ l .r8 ∷ l .r9 ∷ count ∷ a ∷ b ∷ c ∷ d ∷ e ∷ 0 ∷ kind ∷ 0 ∷ 0 ∷ 0 ∷ 0 ∷ []
+
+abbrev pub row-word : ℕ → ℕ → List ℕ → ℕ
+row-word i k R = getD R (i * 24 + k) 0
+
+-- the same kind and arguments
+unfoldable pub same-row : List ℕ → (kind a b c d e i : ℕ) → Bool
+same-row R kind a b c d e i = ifb (all-eq (row-word i 19 R) (row-word i 13 R) (row-word i 14 R) (row-word i 15 R) kind a b c) (ifb (eqb (row-word i 16 R) d) (eqb (row-word i 17 R) e) false) false
+
+abbrev pub one-more-row : State → State
+one-more-row s = record { rows = s .rows + 1; cells = s .cells; conversions = s .conversions; deepest = s .deepest; limit = s .limit; rowroom = s .rowroom; cellroom = s .cellroom }
+
+unfoldable pub add-row : List ℕ → Machine → Machine
+add-row ws w = machine (sets (w .rows) (w .state .rows * 24) ws) (w .cells) (one-more-row (w .state))
+
+unfoldable pub new-row : List ℕ → W ℕ
+new-row ws = λ w. ifb (ltb (w .state .rows) (w .state .rowroom)) (is (w .state .rows) (add-row ws w)) (not 18 w)
+
+-- a known judgment answers its row: the last with it
+unfoldable pub known-row : (kind a b c d e : ℕ) → W ℕ → W ℕ
+known-row kind a b c d e m = λ w. known-or (last-of (same-row (w .rows) kind a b c d e) (w .state .rows)) m w
+
+unfoldable pub emit : ℕ → Refs → (kind count a b c d e : ℕ) → W ℕ
+emit rule l kind count a b c d e = known-row kind a b c d e (new-row (row-block rule l kind count a b c d e))
+
+unfoldable pub emit-has : ℕ → Refs → (d g t ty : ℕ) → W ℕ
+emit-has rule l d g t ty = lowest g λ g′. lowest t λ t′. lowest ty λ y′. emit rule l 13 4 d g′ t′ y′ 0
+
+unfoldable pub emit-eq : ℕ → Refs → (d g a b ty : ℕ) → W ℕ
+emit-eq rule l d g a b ty = lowest g λ g′. lowest a λ a′. lowest b λ b′. lowest ty λ y′. emit rule l 14 5 d g′ a′ b′ y′
+
+-- memory
+
+unfoldable pub recalled-or : Recalled → W (ℕ × ℕ) → W (ℕ × ℕ)
+recalled-or (Known ty row) m = give (ty, row)
+recalled-or Unknown m = m
+
+unfoldable pub recall-or : (d g t : ℕ) → W (ℕ × ℕ) → W (ℕ × ℕ)
+recall-or d g t m = λ w. recalled-or (recall-of (w .cells) (w .state .cells) d g t) m w
+
+-- the type and the row of a remembered inference are written over
+unfoldable pub replace : (n type row : ℕ) → Machine → Machine
+replace n type row w = machine (w .rows) (sets (w .cells) (n * 8 + 4) (type ∷ row ∷ [])) (w .state)
+
+unfoldable pub remembered-or : Found → (type row : ℕ) → W (Unit {0}) → W (Unit {0})
+remembered-or (At n) type row m = λ w. is tt (replace n type row w)
+remembered-or Nothing type row m = m
+
+unfoldable pub new-memory : List ℕ → W (Unit {0})
+new-memory ws = λ w. ifb (ltb (w .state .cells) (w .state .cellroom)) (is tt (add-cell ws w)) (not 20 w)
+
+unfoldable pub remember : (d g t type row : ℕ) → W (Unit {0})
+remember d g t type row = λ w. remembered-or (first-of (same-node (w .cells) 40 d g t) (w .state .cells)) type row (new-memory (40 ∷ d ∷ g ∷ t ∷ type ∷ row ∷ 0 ∷ 0 ∷ [])) w
+
+-- conversions
+
+unfoldable pub conversions-of : ℕ → State → State
+conversions-of n s = record { rows = s .rows; cells = s .cells; conversions = n; deepest = s .deepest; limit = s .limit; rowroom = s .rowroom; cellroom = s .cellroom }
+
+abbrev pub with-conversions : ℕ → Machine → Machine
+with-conversions n w = machine (w .rows) (w .cells) (conversions-of n (w .state))
+
+unfoldable pub ended : {A : Type 0} → Result A → Result A
+ended (is a w) = is a (with-conversions (w .state .conversions - 1) w)
+ended (not n w) = not n (with-conversions (w .state .conversions - 1) w)
+
+unfoldable pub converting : {A : Type 0} → W A → W A
+converting m = λ w. ifb (ltb (w .state .conversions) 32) (ended (m (with-conversions (w .state .conversions + 1) w))) (not 16 w)
+
+-- the same of an answer
+unfoldable pub ended-1 : Got → Got
+ended-1 (got.Is s x) = got.Is (conversions-of (s .conversions - 1) s) x
+ended-1 (got.Refused s e) = got.Refused (conversions-of (s .conversions - 1) s) e
+
+unfoldable pub ended-2 : Two → Two
+ended-2 (two.Pair s x y) = two.Pair (conversions-of (s .conversions - 1) s) x y
+ended-2 (two.Refused s e) = two.Refused (conversions-of (s .conversions - 1) s) e
+
+-- entries
+
+unfoldable pub deeper-of : State → ℕ → State
+deeper-of s left = record { rows = s .rows; cells = s .cells; conversions = s .conversions; deepest = greater-of (s .deepest) (s .limit - left); limit = s .limit; rowroom = s .rowroom; cellroom = s .cellroom }
+
+-- a function is entered with `left` further ones allowed below it
+unfoldable pub enter : {A : Type 0} → ℕ → W A → W A
+enter left m = λ w. m (machine (w .rows) (w .cells) (deeper-of (w .state) left))
+
+unfoldable pub note : ℕ → W (Unit {0})
+note left = λ w. is tt (machine (w .rows) (w .cells) (deeper-of (w .state) left))

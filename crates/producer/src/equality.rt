@@ -1,0 +1,443 @@
+// Equality: root reductions, normal forms, equal terms. With typing.rt these form one cycle of calls.
+ghost use mathlib.Core.Path.{_≡_};
+ghost use Rattle.producer.specs.Machine.{machine, end, end-2, end-step, end-round};
+ghost use Rattle.producer.specs.Equality.{beta, beta-row, at-end, pbeta, at-ends, reduce-papp, round, rounds, equal-normal};
+ghost use Rattle.producer.specs.Calls.{callees};
+use crate::codes;
+use crate::rows::cite1;
+use crate::rows::cite2;
+use crate::rows::cite3;
+use crate::rows::cite5;
+use crate::rows::cite6;
+use crate::state::Four;
+use crate::state::Got;
+use crate::state::Reduced;
+use crate::state::Round;
+use crate::state::State;
+use crate::state::Two;
+use crate::transforms::Op;
+use ast::cells::Shape;
+use ast::cells::read;
+use ast::cells::same_quote;
+use ast::cells::shape_of;
+use ast::kinds;
+
+impl State {
+    // The term reduced at its root, with its type and the row of the equation.
+    pub fn reduce(
+        self,
+        left: u32,
+        rows: &mut [u32],
+        cells: &mut [u32],
+        d: u32,
+        g: u32,
+        t: u32,
+    ) -> Reduced
+        ensures { λ r. ⌜ end-step r (now (rows .exit)) (now (cells .exit)) ≡ callees left .reduce d g t (machine (now (rows .entry)) (now (cells .entry)) self) ⌝ }
+    {
+        if left == 0 {
+            return Reduced::Refused(self, codes::NESTING);
+        }
+        let down = left - 1;
+        let s0 = self.deeper(down);
+        let cell = read(cells, t);
+        let kind = cell.kind;
+        match kind {
+            kinds::APP => {
+                let shape = shape_of(cells, cell.a);
+                if let Shape::Lam(a, body) = shape {
+                    return s0.beta(down, rows, cells, d, g, t, a, body, cell.b);
+                }
+                return Reduced::Whole(s0);
+            }
+            kinds::PAPP => {
+                return s0.papp(down, rows, cells, d, g, t, cell.a, cell.b);
+            }
+            _ => {}
+        }
+        Reduced::Whole(s0)
+    }
+
+    // A lam that is applied to `r`.
+    pub fn beta(
+        self,
+        left: u32,
+        rows: &mut [u32],
+        cells: &mut [u32],
+        d: u32,
+        g: u32,
+        t: u32,
+        a: u32,
+        body: u32,
+        r: u32,
+    ) -> Reduced
+        ensures { λ x. ⌜ end-step x (now (rows .exit)) (now (cells .exit)) ≡ beta (callees left) d g t a body r (machine (now (rows .entry)) (now (cells .entry)) self) ⌝ }
+    {
+        let q1 = self.universe(left, rows, cells, d, g, a);
+        let Two::Pair(s1, _, x) = q1 else {
+            return q1.as_reduced();
+        };
+        let q2 = s1.prepare(left, rows, cells, kinds::CONS, a, g);
+        let Got::Is(s2, h) = q2 else {
+            return q2.as_reduced();
+        };
+        let q3 = s2.infer(left, rows, cells, d, h, body);
+        let Two::Pair(s3, b, y) = q3 else {
+            return q3.as_reduced();
+        };
+        let q4 = s3.prepare(left, rows, cells, kinds::CONS, a, g);
+        let Got::Is(s4, k) = q4 else {
+            return q4.as_reduced();
+        };
+        let q5 = s4.universe(left, rows, cells, d, k, b);
+        let Two::Pair(s5, _, z) = q5 else {
+            return q5.as_reduced();
+        };
+        let q6 = s5.check(left, rows, cells, d, g, r, a);
+        let Got::Is(s6, arg) = q6 else {
+            return q6.as_reduced();
+        };
+        s6.beta_row(left, rows, cells, d, g, t, body, r, b, x, y, z, arg)
+    }
+
+    // The two substitutions of a beta step, and its row.
+    pub fn beta_row(
+        self,
+        left: u32,
+        rows: &mut [u32],
+        cells: &mut [u32],
+        d: u32,
+        g: u32,
+        t: u32,
+        body: u32,
+        r: u32,
+        b: u32,
+        x: u32,
+        y: u32,
+        z: u32,
+        arg: u32,
+    ) -> Reduced
+        ensures { λ u. ⌜ end-step u (now (rows .exit)) (now (cells .exit)) ≡ beta-row (callees left) d g t body r b x y z arg (machine (now (rows .entry)) (now (cells .entry)) self) ⌝ }
+    {
+        let q1 = self.transform(left, rows, cells, body, Op::Subst(0, r));
+        let Two::Pair(s1, out, x4) = q1 else {
+            return q1.as_reduced();
+        };
+        let q2 = s1.transform(left, rows, cells, b, Op::Subst(0, r));
+        let Two::Pair(s2, ty, x5) = q2 else {
+            return q2.as_reduced();
+        };
+        let refs = cite6(x, y, z, arg, x4, x5);
+        let q3 = s2.emit_eq(rows, cells, codes::EQ_BETA, refs, d, g, t, out, ty);
+        let Got::Is(s3, row) = q3 else {
+            return q3.as_reduced();
+        };
+        Reduced::Step(s3, out, ty, row)
+    }
+
+    // A path that is applied to `r`.
+    pub fn papp(
+        self,
+        left: u32,
+        rows: &mut [u32],
+        cells: &mut [u32],
+        d: u32,
+        g: u32,
+        t: u32,
+        p: u32,
+        r: u32,
+    ) -> Reduced
+        ensures { λ x. ⌜ end-step x (now (rows .exit)) (now (cells .exit)) ≡ reduce-papp (callees left) d g t p r (machine (now (rows .entry)) (now (cells .entry)) self) ⌝ }
+    {
+        let q1 = self.infer(left, rows, cells, d, g, p);
+        let Two::Pair(s1, pty, row) = q1 else {
+            return q1.as_reduced();
+        };
+        let q2 = s1.as_path(left, rows, cells, d, g, p, pty, row);
+        let Four::Each(s2, family, b, c, x) = q2 else {
+            return q2.as_reduced();
+        };
+        let q3 = s2.transform(left, rows, cells, family, Op::DSubst(0, r));
+        let Two::Pair(s3, ty, y) = q3 else {
+            return q3.as_reduced();
+        };
+        let shape = shape_of(cells, p);
+        if let Shape::Plam(_, body) = shape {
+            return s3.pbeta(left, rows, cells, d, g, t, r, body, ty, x, y);
+        }
+        s3.sides(left, rows, cells, d, g, t, r, b, c, ty, x, y)
+    }
+
+    // A plam that is applied to `r`.
+    pub fn pbeta(
+        self,
+        left: u32,
+        rows: &mut [u32],
+        cells: &mut [u32],
+        d: u32,
+        g: u32,
+        t: u32,
+        r: u32,
+        body: u32,
+        ty: u32,
+        x: u32,
+        y: u32,
+    ) -> Reduced
+        ensures { λ u. ⌜ end-step u (now (rows .exit)) (now (cells .exit)) ≡ pbeta (callees left) d g t r body ty x y (machine (now (rows .entry)) (now (cells .entry)) self) ⌝ }
+    {
+        let q1 = self.interval(left, rows, cells, d, r);
+        let Got::Is(s1, dim) = q1 else {
+            return q1.as_reduced();
+        };
+        let q2 = s1.transform(left, rows, cells, body, Op::DSubst(0, r));
+        let Two::Pair(s2, out, sub) = q2 else {
+            return q2.as_reduced();
+        };
+        let q3 = s2.check(left, rows, cells, d, g, out, ty);
+        let Got::Is(s3, typed) = q3 else {
+            return q3.as_reduced();
+        };
+        let refs = cite5(x, dim, y, sub, typed);
+        let q4 = s3.emit_eq(rows, cells, codes::EQ_PBETA, refs, d, g, t, out, ty);
+        let Got::Is(s4, row) = q4 else {
+            return q4.as_reduced();
+        };
+        Reduced::Step(s4, out, ty, row)
+    }
+
+    // A path that is no plam: at a literal end alone it is that side of its type.
+    pub fn sides(
+        self,
+        left: u32,
+        rows: &mut [u32],
+        cells: &mut [u32],
+        d: u32,
+        g: u32,
+        t: u32,
+        r: u32,
+        b: u32,
+        c: u32,
+        ty: u32,
+        x: u32,
+        y: u32,
+    ) -> Reduced
+        ensures { λ u. ⌜ end-step u (now (rows .exit)) (now (cells .exit)) ≡ at-ends (callees left) d g t r b c ty x y (machine (now (rows .entry)) (now (cells .entry)) self) ⌝ }
+    {
+        let cell = read(cells, r);
+        let kind = cell.kind;
+        match kind {
+            kinds::I0 => {
+                return self.at_end(left, rows, cells, d, g, t, b, ty, x, y, codes::EQ_P0);
+            }
+            kinds::I1 => {
+                return self.at_end(left, rows, cells, d, g, t, c, ty, x, y, codes::EQ_P1);
+            }
+            _ => {}
+        }
+        Reduced::Whole(self)
+    }
+
+    // The side `out` of a path's type.
+    pub fn at_end(
+        self,
+        left: u32,
+        rows: &mut [u32],
+        cells: &mut [u32],
+        d: u32,
+        g: u32,
+        t: u32,
+        out: u32,
+        ty: u32,
+        x: u32,
+        y: u32,
+        rule: u32,
+    ) -> Reduced
+        ensures { λ u. ⌜ end-step u (now (rows .exit)) (now (cells .exit)) ≡ at-end (callees left) d g t out ty x y rule (machine (now (rows .entry)) (now (cells .entry)) self) ⌝ }
+    {
+        let q1 = self.check(left, rows, cells, d, g, out, ty);
+        let Got::Is(s1, typed) = q1 else {
+            return q1.as_reduced();
+        };
+        let refs = cite3(x, y, typed);
+        let q2 = s1.emit_eq(rows, cells, rule, refs, d, g, t, out, ty);
+        let Got::Is(s2, row) = q2 else {
+            return q2.as_reduced();
+        };
+        Reduced::Step(s2, out, ty, row)
+    }
+
+    // The term with its root reduced while that goes, and the row of the equation.
+    pub fn normalize(
+        self,
+        left: u32,
+        rows: &mut [u32],
+        cells: &mut [u32],
+        d: u32,
+        g: u32,
+        t: u32,
+        ty: u32,
+    ) -> Two
+        ensures { λ r. ⌜ end-2 r (now (rows .exit)) (now (cells .exit)) ≡ callees left .normalize d g t ty (machine (now (rows .entry)) (now (cells .entry)) self) ⌝ }
+    {
+        if left == 0 {
+            return Two::Refused(self, codes::NESTING);
+        }
+        let down = left - 1;
+        let s0 = self.deeper(down);
+        let q1 = s0.check(down, rows, cells, d, g, t, ty);
+        let Got::Is(s1, typed) = q1 else {
+            return q1.as_two();
+        };
+        let refs = cite1(typed);
+        let q2 = s1.emit_eq(rows, cells, codes::EQ_REFL, refs, d, g, t, t, ty);
+        let Got::Is(s2, evidence) = q2 else {
+            return q2.as_two();
+        };
+        s2.rounds(down, rows, cells, d, g, t, ty, evidence)
+    }
+
+    // At most 32 root reductions of `t`, which is equal to itself by the row `evidence`; refuses (15) one more.
+    pub fn rounds(
+        self,
+        left: u32,
+        rows: &mut [u32],
+        cells: &mut [u32],
+        d: u32,
+        g: u32,
+        t: u32,
+        ty: u32,
+        evidence: u32,
+    ) -> Two
+        ensures { λ r. ⌜ end-2 r (now (rows .exit)) (now (cells .exit)) ≡ rounds 32 (callees left) d g t ty t evidence (machine (now (rows .entry)) (now (cells .entry)) self) ⌝ }
+    {
+        let mut s = self;
+        let mut current = t;
+        let mut row = evidence;
+        let mut i = 0u32;
+        while i < 32 {
+            match s.round(left, rows, cells, d, g, t, ty, current, row) {
+                Round::Next(s1, term, x) => {
+                    s = s1;
+                    current = term;
+                    row = x;
+                }
+                Round::Over(s1) => {
+                    return Two::Pair(s1, current, row);
+                }
+                Round::Refused(s1, e) => {
+                    return Two::Refused(s1, e);
+                }
+            }
+            i += 1;
+        }
+        match s.reduce(left, rows, cells, d, g, current) {
+            Reduced::Step(s1, _, _, _) => Two::Refused(s1, codes::REDUCTIONS),
+            Reduced::Whole(s1) => Two::Pair(s1, current, row),
+            Reduced::Refused(s1, e) => Two::Refused(s1, e),
+        }
+    }
+
+    // One root reduction, at the type wanted; refuses (14) one at a type with another quote.
+    pub fn round(
+        self,
+        left: u32,
+        rows: &mut [u32],
+        cells: &mut [u32],
+        d: u32,
+        g: u32,
+        t: u32,
+        ty: u32,
+        current: u32,
+        evidence: u32,
+    ) -> Round
+        ensures { λ r. ⌜ end-round r (now (rows .exit)) (now (cells .exit)) ≡ round (callees left) d g t ty current evidence (machine (now (rows .entry)) (now (cells .entry)) self) ⌝ }
+    {
+        match self.reduce(left, rows, cells, d, g, current) {
+            Reduced::Step(s1, term, at, step) => {
+                if same_quote(cells, at, ty) {
+                    let q2 = s1.check(left, rows, cells, d, g, term, ty);
+                    let Got::Is(s2, _) = q2 else {
+                        return q2.as_round();
+                    };
+                    let refs = cite2(evidence, step);
+                    let q3 = s2.emit_eq(rows, cells, codes::EQ_TRANS, refs, d, g, t, term, ty);
+                    let Got::Is(s3, row) = q3 else {
+                        return q3.as_round();
+                    };
+                    return Round::Next(s3, term, row);
+                }
+                Round::Refused(s1, codes::STEP_TYPE)
+            }
+            Reduced::Whole(s1) => Round::Over(s1),
+            Reduced::Refused(s1, e) => Round::Refused(s1, e),
+        }
+    }
+
+    // The row that two terms are equal.
+    pub fn equal(
+        self,
+        left: u32,
+        rows: &mut [u32],
+        cells: &mut [u32],
+        d: u32,
+        g: u32,
+        a: u32,
+        b: u32,
+        ty: u32,
+    ) -> Got
+        ensures { λ r. ⌜ end r (now (rows .exit)) (now (cells .exit)) ≡ callees left .equal d g a b ty (machine (now (rows .entry)) (now (cells .entry)) self) ⌝ }
+    {
+        if left == 0 {
+            return Got::Refused(self, codes::NESTING);
+        }
+        let down = left - 1;
+        let s0 = self.deeper(down);
+        let q1 = s0.check(down, rows, cells, d, g, a, ty);
+        let Got::Is(s1, typed) = q1 else {
+            return q1;
+        };
+        let q2 = s1.check(down, rows, cells, d, g, b, ty);
+        let Got::Is(s2, _) = q2 else {
+            return q2;
+        };
+        if same_quote(cells, a, b) {
+            let refs = cite1(typed);
+            return s2.emit_eq(rows, cells, codes::EQ_REFL, refs, d, g, a, b, ty);
+        }
+        s2.apart(down, rows, cells, d, g, a, b, ty)
+    }
+
+    // Two terms with different quotes; refuses (13) where those of their normal forms differ too.
+    pub fn apart(
+        self,
+        left: u32,
+        rows: &mut [u32],
+        cells: &mut [u32],
+        d: u32,
+        g: u32,
+        a: u32,
+        b: u32,
+        ty: u32,
+    ) -> Got
+        ensures { λ r. ⌜ end r (now (rows .exit)) (now (cells .exit)) ≡ equal-normal (callees left) d g a b ty (machine (now (rows .entry)) (now (cells .entry)) self) ⌝ }
+    {
+        let q1 = self.normalize(left, rows, cells, d, g, a, ty);
+        let Two::Pair(s1, one, x) = q1 else {
+            return q1.as_got();
+        };
+        let q2 = s1.normalize(left, rows, cells, d, g, b, ty);
+        let Two::Pair(s2, other, y) = q2 else {
+            return q2.as_got();
+        };
+        if same_quote(cells, one, other) {
+            let reversed = cite1(y);
+            let q3 = s2.emit_eq(rows, cells, codes::EQ_SYM, reversed, d, g, other, b, ty);
+            let Got::Is(s3, z) = q3 else {
+                return q3;
+            };
+            let refs = cite2(x, z);
+            return s3.emit_eq(rows, cells, codes::EQ_TRANS, refs, d, g, a, b, ty);
+        }
+        Got::Refused(s2, codes::QUOTES)
+    }
+}

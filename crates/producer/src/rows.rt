@@ -1,0 +1,464 @@
+// Rows: 24 words each. Rule, cited rows (count, ten places), arguments (count, five places), six working words:
+// 18 stays 0, 19 is the judgment's kind. Nothing but `find_row` knows how a known judgment is found.
+ghost use mathlib.Core.Path.{_≡_};
+ghost use mathlib.Core.List.{[], _∷_};
+ghost use Prim.Native.Nat.{_+_, _*_};
+ghost use lib.Seq.{sets};
+ghost use Rattle.ast.specs.Cells.{last-of};
+ghost use Rattle.producer.specs.Machine.{machine, end, no-refs, cons-refs, join-refs, refs-1, refs-2, refs-3, refs-4, refs-5, refs-6, refs-7, refs-10, row-block, same-row, emit, emit-has, emit-eq};
+use crate::codes;
+use crate::state::Got;
+use crate::state::State;
+use ast::cells::Found;
+use ast::cells::quote;
+use ast::words::all_equal;
+use ast::words::put;
+use ast::words::succ;
+use ast::words::word;
+
+// The rows cited: how many, and ten words.
+pub struct Refs {
+    pub count: u32,
+    pub r0: u32,
+    pub r1: u32,
+    pub r2: u32,
+    pub r3: u32,
+    pub r4: u32,
+    pub r5: u32,
+    pub r6: u32,
+    pub r7: u32,
+    pub r8: u32,
+    pub r9: u32,
+}
+
+// No row cited.
+pub fn cite0() -> Refs
+    ensures { λ r. ⌜ r ≡ no-refs ⌝ }
+{
+    Refs {
+        count: 0,
+        r0: 0,
+        r1: 0,
+        r2: 0,
+        r3: 0,
+        r4: 0,
+        r5: 0,
+        r6: 0,
+        r7: 0,
+        r8: 0,
+        r9: 0,
+    }
+}
+
+// One row cited.
+pub fn cite1(x0: u32) -> Refs
+    ensures { λ r. ⌜ r ≡ refs-1 x0 ⌝ }
+{
+    Refs {
+        count: 1,
+        r0: x0,
+        r1: 0,
+        r2: 0,
+        r3: 0,
+        r4: 0,
+        r5: 0,
+        r6: 0,
+        r7: 0,
+        r8: 0,
+        r9: 0,
+    }
+}
+
+// Two rows cited.
+pub fn cite2(x0: u32, x1: u32) -> Refs
+    ensures { λ r. ⌜ r ≡ refs-2 x0 x1 ⌝ }
+{
+    Refs {
+        count: 2,
+        r0: x0,
+        r1: x1,
+        r2: 0,
+        r3: 0,
+        r4: 0,
+        r5: 0,
+        r6: 0,
+        r7: 0,
+        r8: 0,
+        r9: 0,
+    }
+}
+
+// Three rows cited.
+pub fn cite3(x0: u32, x1: u32, x2: u32) -> Refs
+    ensures { λ r. ⌜ r ≡ refs-3 x0 x1 x2 ⌝ }
+{
+    Refs {
+        count: 3,
+        r0: x0,
+        r1: x1,
+        r2: x2,
+        r3: 0,
+        r4: 0,
+        r5: 0,
+        r6: 0,
+        r7: 0,
+        r8: 0,
+        r9: 0,
+    }
+}
+
+// Four rows cited.
+pub fn cite4(x0: u32, x1: u32, x2: u32, x3: u32) -> Refs
+    ensures { λ r. ⌜ r ≡ refs-4 x0 x1 x2 x3 ⌝ }
+{
+    Refs {
+        count: 4,
+        r0: x0,
+        r1: x1,
+        r2: x2,
+        r3: x3,
+        r4: 0,
+        r5: 0,
+        r6: 0,
+        r7: 0,
+        r8: 0,
+        r9: 0,
+    }
+}
+
+// Five rows cited.
+pub fn cite5(x0: u32, x1: u32, x2: u32, x3: u32, x4: u32) -> Refs
+    ensures { λ r. ⌜ r ≡ refs-5 x0 x1 x2 x3 x4 ⌝ }
+{
+    Refs {
+        count: 5,
+        r0: x0,
+        r1: x1,
+        r2: x2,
+        r3: x3,
+        r4: x4,
+        r5: 0,
+        r6: 0,
+        r7: 0,
+        r8: 0,
+        r9: 0,
+    }
+}
+
+// Six rows cited.
+pub fn cite6(x0: u32, x1: u32, x2: u32, x3: u32, x4: u32, x5: u32) -> Refs
+    ensures { λ r. ⌜ r ≡ refs-6 x0 x1 x2 x3 x4 x5 ⌝ }
+{
+    Refs {
+        count: 6,
+        r0: x0,
+        r1: x1,
+        r2: x2,
+        r3: x3,
+        r4: x4,
+        r5: x5,
+        r6: 0,
+        r7: 0,
+        r8: 0,
+        r9: 0,
+    }
+}
+
+// Seven rows cited.
+pub fn cite7(x0: u32, x1: u32, x2: u32, x3: u32, x4: u32, x5: u32, x6: u32) -> Refs
+    ensures { λ r. ⌜ r ≡ refs-7 x0 x1 x2 x3 x4 x5 x6 ⌝ }
+{
+    Refs {
+        count: 7,
+        r0: x0,
+        r1: x1,
+        r2: x2,
+        r3: x3,
+        r4: x4,
+        r5: x5,
+        r6: x6,
+        r7: 0,
+        r8: 0,
+        r9: 0,
+    }
+}
+
+// Ten rows cited.
+pub fn cite10(
+    x0: u32,
+    x1: u32,
+    x2: u32,
+    x3: u32,
+    x4: u32,
+    x5: u32,
+    x6: u32,
+    x7: u32,
+    x8: u32,
+    x9: u32,
+) -> Refs
+    ensures { λ r. ⌜ r ≡ refs-10 x0 x1 x2 x3 x4 x5 x6 x7 x8 x9 ⌝ }
+{
+    Refs {
+        count: 10,
+        r0: x0,
+        r1: x1,
+        r2: x2,
+        r3: x3,
+        r4: x4,
+        r5: x5,
+        r6: x6,
+        r7: x7,
+        r8: x8,
+        r9: x9,
+    }
+}
+
+// A row cited before others.
+pub fn cite_before(x: u32, refs: Refs) -> Refs
+    ensures { λ r. ⌜ r ≡ cons-refs x refs ⌝ }
+{
+    let count = succ(refs.count);
+    Refs {
+        count,
+        r0: x,
+        r1: refs.r0,
+        r2: refs.r1,
+        r3: refs.r2,
+        r4: refs.r3,
+        r5: refs.r4,
+        r6: refs.r5,
+        r7: refs.r6,
+        r8: refs.r7,
+        r9: refs.r8,
+    }
+}
+
+// The first row of the one, where it has any, cited before the other.
+pub fn cite_first(first: Refs, refs: Refs) -> Refs
+    ensures { λ r. ⌜ r ≡ join-refs first refs ⌝ }
+{
+    if first.count == 0 {
+        return refs;
+    }
+    cite_before(first.r0, refs)
+}
+
+// Where row `i` starts.
+pub fn row_start(i: u32) -> usize
+    ensures { λ r. ⌜ r ≡ i * 24 ⌝ }
+{
+    (i as usize) * 24
+}
+
+// Whether row `i` has the judgment's kind and arguments.
+pub fn same_row(rows: &[u32], i: u32, kind: u32, a: u32, b: u32, c: u32, d: u32, e: u32) -> bool
+    ensures { λ r. ⌜ r ≡ same-row (now (rows .entry)) kind a b c d e i ⌝ }
+{
+    let at = row_start(i);
+    let it = word(rows, at + 19);
+    let first = word(rows, at + 13);
+    let second = word(rows, at + 14);
+    let third = word(rows, at + 15);
+    if all_equal(it, first, second, third, kind, a, b, c) {
+        if word(rows, at + 16) == d {
+            return word(rows, at + 17) == e;
+        }
+    }
+    false
+}
+
+// The last row below `n` that has the judgment's kind and arguments.
+pub fn find_row(rows: &[u32], n: u32, kind: u32, a: u32, b: u32, c: u32, d: u32, e: u32) -> Found
+    ensures { λ r. ⌜ r ≡ last-of (same-row (now (rows .entry)) kind a b c d e) n ⌝ }
+{
+    let mut i = n;
+    while 0 < i {
+        i -= 1;
+        if same_row(rows, i, kind, a, b, c, d, e) {
+            return Found::At(i);
+        }
+    }
+    Found::Nothing
+}
+
+// Stores eight words of row `n`: a third of it.
+pub fn put_third(
+    rows: &mut [u32],
+    n: u32,
+    third: u8,
+    a: u32,
+    b: u32,
+    c: u32,
+    d: u32,
+    e: u32,
+    f: u32,
+    g: u32,
+    h: u32,
+)
+    ensures { λ _. ⌜ now (rows .exit) ≡ sets (now (rows .entry)) (n * 24 + third * 8) (a ∷ b ∷ c ∷ d ∷ e ∷ f ∷ g ∷ h ∷ []) ⌝ }
+{
+    let start = row_start(n);
+    let at = start + (third as usize) * 8;
+    put(rows, at, a);
+    put(rows, at + 1, b);
+    put(rows, at + 2, c);
+    put(rows, at + 3, d);
+    put(rows, at + 4, e);
+    put(rows, at + 5, f);
+    put(rows, at + 6, g);
+    put(rows, at + 7, h);
+}
+
+// Stores row `n`.
+pub fn put_row(
+    rows: &mut [u32],
+    n: u32,
+    rule: u32,
+    refs: Refs,
+    kind: u32,
+    count: u32,
+    a: u32,
+    b: u32,
+    c: u32,
+    d: u32,
+    e: u32,
+)
+    ensures { λ _. ⌜ now (rows .exit) ≡ sets (now (rows .entry)) (n * 24) (row-block rule refs kind count a b c d e) ⌝ }
+{
+    put_third(
+        rows,
+        n,
+        0,
+        rule,
+        refs.count,
+        refs.r0,
+        refs.r1,
+        refs.r2,
+        refs.r3,
+        refs.r4,
+        refs.r5,
+    );
+    put_third(
+        rows,
+        n,
+        1,
+        refs.r6,
+        refs.r7,
+        refs.r8,
+        refs.r9,
+        count,
+        a,
+        b,
+        c,
+    );
+    put_third(rows, n, 2, d, e, 0, kind, 0, 0, 0, 0);
+}
+
+impl State {
+    // The row with the judgment: the last that has it, or a new one; refuses (18) where none is left.
+    pub fn emit(
+        self,
+        rows: &mut [u32],
+        cells: &[u32],
+        rule: u32,
+        refs: Refs,
+        kind: u32,
+        count: u32,
+        a: u32,
+        b: u32,
+        c: u32,
+        d: u32,
+        e: u32,
+    ) -> Got
+        ensures { λ r. ⌜ end r (now (rows .exit)) (now (cells .entry)) ≡ emit rule refs kind count a b c d e (machine (now (rows .entry)) (now (cells .entry)) self) ⌝ }
+    {
+        let n = self.rows;
+        match find_row(rows, n, kind, a, b, c, d, e) {
+            Found::At(i) => Got::Is(self, i),
+            Found::Nothing => {
+                if n < self.rowroom {
+                    put_row(rows, n, rule, refs, kind, count, a, b, c, d, e);
+                    return Got::Is(
+                        State {
+                            rows: n + 1,
+                            cells: self.cells,
+                            conversions: self.conversions,
+                            deepest: self.deepest,
+                            limit: self.limit,
+                            rowroom: self.rowroom,
+                            cellroom: self.cellroom,
+                        },
+                        n,
+                    );
+                }
+                Got::Refused(self, codes::ROWS)
+            }
+        }
+    }
+
+    // The row of a typing: by quotes.
+    pub fn emit_has(
+        self,
+        rows: &mut [u32],
+        cells: &[u32],
+        rule: u32,
+        refs: Refs,
+        d: u32,
+        g: u32,
+        t: u32,
+        ty: u32,
+    ) -> Got
+        ensures { λ r. ⌜ end r (now (rows .exit)) (now (cells .entry)) ≡ emit-has rule refs d g t ty (machine (now (rows .entry)) (now (cells .entry)) self) ⌝ }
+    {
+        let context = quote(cells, g);
+        let term = quote(cells, t);
+        let kind = quote(cells, ty);
+        self.emit(
+            rows,
+            cells,
+            rule,
+            refs,
+            codes::IS_HAS,
+            4,
+            d,
+            context,
+            term,
+            kind,
+            0,
+        )
+    }
+
+    // The row of an equation: by quotes.
+    pub fn emit_eq(
+        self,
+        rows: &mut [u32],
+        cells: &[u32],
+        rule: u32,
+        refs: Refs,
+        d: u32,
+        g: u32,
+        a: u32,
+        b: u32,
+        ty: u32,
+    ) -> Got
+        ensures { λ r. ⌜ end r (now (rows .exit)) (now (cells .entry)) ≡ emit-eq rule refs d g a b ty (machine (now (rows .entry)) (now (cells .entry)) self) ⌝ }
+    {
+        let context = quote(cells, g);
+        let left = quote(cells, a);
+        let right = quote(cells, b);
+        let kind = quote(cells, ty);
+        self.emit(
+            rows,
+            cells,
+            rule,
+            refs,
+            codes::IS_EQ,
+            5,
+            d,
+            context,
+            left,
+            right,
+            kind,
+        )
+    }
+}

@@ -1,0 +1,868 @@
+// Typing: contexts, inference, universes, checks, exposed types. With equality.rt these form one cycle of calls;
+// a reference function is entered with one less nesting left, and an arm of one keeps what is left.
+ghost use mathlib.Core.Path.{_≡_};
+ghost use Rattle.producer.specs.Machine.{machine, end, end-2, end-3, end-4, end-found};
+ghost use Rattle.producer.specs.Typing.{ctx-cons, retyped, exposed, converted, opened, as-pi, as-path, find-atom, find-var, find-pi, find-lam, find-app, ends, path-ends, find-path, plam-ends, find-plam, find-papp, find-compound, find, new-infer};
+ghost use Rattle.producer.specs.Calls.{callees};
+use crate::codes;
+use crate::rows::cite0;
+use crate::rows::cite1;
+use crate::rows::cite2;
+use crate::rows::cite3;
+use crate::rows::cite4;
+use crate::rows::cite7;
+use crate::rows::cite10;
+use crate::rows::find_row;
+use crate::state::Done;
+use crate::state::Four;
+use crate::state::Function;
+use crate::state::Got;
+use crate::state::Inferred;
+use crate::state::State;
+use crate::state::Two;
+use crate::state::ended_got;
+use crate::state::ended_two;
+use crate::transforms::Op;
+use ast::cells::Cell;
+use ast::cells::Found;
+use ast::cells::Recalled;
+use ast::cells::Shape;
+use ast::cells::read;
+use ast::cells::recall;
+use ast::cells::same_quote;
+use ast::cells::shape_of;
+use ast::kinds;
+use ast::words::greater;
+use ast::words::succ;
+
+impl State {
+    // The row of a context: a known one answers its row.
+    pub fn ctx(self, left: u32, rows: &mut [u32], cells: &mut [u32], d: u32, g: u32) -> Got
+        ensures { λ r. ⌜ end r (now (rows .exit)) (now (cells .exit)) ≡ callees left .ctx d g (machine (now (rows .entry)) (now (cells .entry)) self) ⌝ }
+    {
+        if left == 0 {
+            return Got::Refused(self, codes::NESTING);
+        }
+        let down = left - 1;
+        let s0 = self.deeper(down);
+        let cell = read(cells, g);
+        match find_row(rows, s0.rows, codes::IS_CTX, d, cell.quote, 0, 0, 0) {
+            Found::At(i) => Got::Is(s0, i),
+            Found::Nothing => {
+                if cell.kind == kinds::NIL {
+                    let refs = cite0();
+                    return s0.emit(
+                        rows,
+                        cells,
+                        codes::CTX_NIL,
+                        refs,
+                        codes::IS_CTX,
+                        2,
+                        d,
+                        cell.quote,
+                        0,
+                        0,
+                        0,
+                    );
+                }
+                s0.extend(down, rows, cells, d, cell.quote, cell.a, cell.b)
+            }
+        }
+    }
+
+    // A longer context, whose quote is `quote`.
+    pub fn extend(
+        self,
+        left: u32,
+        rows: &mut [u32],
+        cells: &mut [u32],
+        d: u32,
+        quote: u32,
+        a: u32,
+        g: u32,
+    ) -> Got
+        ensures { λ r. ⌜ end r (now (rows .exit)) (now (cells .exit)) ≡ ctx-cons (callees left) d quote a g (machine (now (rows .entry)) (now (cells .entry)) self) ⌝ }
+    {
+        let q1 = self.ctx(left, rows, cells, d, g);
+        let Got::Is(s1, x) = q1 else {
+            return q1;
+        };
+        let q2 = s1.universe(left, rows, cells, d, g, a);
+        let Two::Pair(s2, _, y) = q2 else {
+            return q2.as_got();
+        };
+        let refs = cite2(x, y);
+        s2.emit(
+            rows,
+            cells,
+            codes::CTX_CONS,
+            refs,
+            codes::IS_CTX,
+            2,
+            d,
+            quote,
+            0,
+            0,
+            0,
+        )
+    }
+
+    // The type with its head exposed, and the row that the term has it.
+    pub fn expose(
+        self,
+        left: u32,
+        rows: &mut [u32],
+        cells: &mut [u32],
+        d: u32,
+        g: u32,
+        t: u32,
+        ty: u32,
+        typed: u32,
+    ) -> Two
+        ensures { λ r. ⌜ end-2 r (now (rows .exit)) (now (cells .exit)) ≡ callees left .expose d g t ty typed (machine (now (rows .entry)) (now (cells .entry)) self) ⌝ }
+    {
+        if left == 0 {
+            return Two::Refused(self, codes::NESTING);
+        }
+        let down = left - 1;
+        let s0 = self.deeper(down);
+        let q1 = s0.universe(down, rows, cells, d, g, ty);
+        let Two::Pair(s1, level, _) = q1 else {
+            return q1;
+        };
+        let q2 = s1.prepare(down, rows, cells, kinds::UNIVERSE, level, 0);
+        let Got::Is(s2, u) = q2 else {
+            return q2.as_two();
+        };
+        let q3 = s2.normalize(down, rows, cells, d, g, ty, u);
+        let Two::Pair(s3, normal, x) = q3 else {
+            return q3;
+        };
+        if same_quote(cells, normal, ty) {
+            return Two::Pair(s3, normal, typed);
+        }
+        s3.retyped(down, rows, cells, d, g, t, level, normal, typed, x)
+    }
+
+    // The term has the exposed type too.
+    pub fn retyped(
+        self,
+        left: u32,
+        rows: &mut [u32],
+        cells: &mut [u32],
+        d: u32,
+        g: u32,
+        t: u32,
+        level: u32,
+        normal: u32,
+        typed: u32,
+        equality: u32,
+    ) -> Two
+        ensures { λ r. ⌜ end-2 r (now (rows .exit)) (now (cells .exit)) ≡ retyped (callees left) d g t level normal typed equality (machine (now (rows .entry)) (now (cells .entry)) self) ⌝ }
+    {
+        let q1 = self.prepare(left, rows, cells, kinds::UNIVERSE, level, 0);
+        let Got::Is(s1, u) = q1 else {
+            return q1.as_two();
+        };
+        let q2 = s1.check(left, rows, cells, d, g, normal, u);
+        let Got::Is(s2, formed) = q2 else {
+            return q2.as_two();
+        };
+        let refs = cite3(typed, equality, formed);
+        let q3 = s2.emit_has(rows, cells, codes::TYPE_CONV, refs, d, g, t, normal);
+        let Got::Is(s3, row) = q3 else {
+            return q3.as_two();
+        };
+        Two::Pair(s3, normal, row)
+    }
+
+    // The level of a type, and the row that it has it; refuses (11) a term that is no type.
+    pub fn universe(
+        self,
+        left: u32,
+        rows: &mut [u32],
+        cells: &mut [u32],
+        d: u32,
+        g: u32,
+        t: u32,
+    ) -> Two
+        ensures { λ r. ⌜ end-2 r (now (rows .exit)) (now (cells .exit)) ≡ callees left .universe d g t (machine (now (rows .entry)) (now (cells .entry)) self) ⌝ }
+    {
+        if left == 0 {
+            return Two::Refused(self, codes::NESTING);
+        }
+        let down = left - 1;
+        let s0 = self.deeper(down);
+        let q1 = s0.infer(down, rows, cells, d, g, t);
+        let Two::Pair(s1, ty, row) = q1 else {
+            return q1;
+        };
+        let shape = shape_of(cells, ty);
+        if let Shape::Universe(level) = shape {
+            return Two::Pair(s1, level, row);
+        }
+        if s1.conversions < 32 {
+            let s2 = s1.converting(s1.conversions + 1);
+            let q2 = s2.exposed(down, rows, cells, d, g, t, ty, row);
+            return ended_two(q2);
+        }
+        Two::Refused(s1, codes::CONVERSIONS)
+    }
+
+    // The level of a type that has its universe only once exposed.
+    pub fn exposed(
+        self,
+        left: u32,
+        rows: &mut [u32],
+        cells: &mut [u32],
+        d: u32,
+        g: u32,
+        t: u32,
+        ty: u32,
+        row: u32,
+    ) -> Two
+        ensures { λ r. ⌜ end-2 r (now (rows .exit)) (now (cells .exit)) ≡ exposed (callees left) d g t ty row (machine (now (rows .entry)) (now (cells .entry)) self) ⌝ }
+    {
+        let q = self.expose(left, rows, cells, d, g, t, ty, row);
+        let Two::Pair(s, normal, typed) = q else {
+            return q;
+        };
+        let shape = shape_of(cells, normal);
+        let Shape::Universe(level) = shape else {
+            return Two::Refused(s, codes::NO_TYPE);
+        };
+        Two::Pair(s, level, typed)
+    }
+
+    // The row that the term has the type.
+    pub fn check(
+        self,
+        left: u32,
+        rows: &mut [u32],
+        cells: &mut [u32],
+        d: u32,
+        g: u32,
+        t: u32,
+        expected: u32,
+    ) -> Got
+        ensures { λ r. ⌜ end r (now (rows .exit)) (now (cells .exit)) ≡ callees left .check d g t expected (machine (now (rows .entry)) (now (cells .entry)) self) ⌝ }
+    {
+        if left == 0 {
+            return Got::Refused(self, codes::NESTING);
+        }
+        let down = left - 1;
+        let s0 = self.deeper(down);
+        let q1 = s0.infer(down, rows, cells, d, g, t);
+        let Two::Pair(s1, actual, row) = q1 else {
+            return q1.as_got();
+        };
+        if same_quote(cells, actual, expected) {
+            return Got::Is(s1, row);
+        }
+        if s1.conversions < 32 {
+            let s2 = s1.converting(s1.conversions + 1);
+            let q2 = s2.convert(down, rows, cells, d, g, t, actual, expected, row);
+            return ended_got(q2);
+        }
+        Got::Refused(s1, codes::CONVERSIONS)
+    }
+
+    // A term of the one type has the other too; refuses (12) where their levels differ.
+    pub fn convert(
+        self,
+        left: u32,
+        rows: &mut [u32],
+        cells: &mut [u32],
+        d: u32,
+        g: u32,
+        t: u32,
+        actual: u32,
+        expected: u32,
+        row: u32,
+    ) -> Got
+        ensures { λ r. ⌜ end r (now (rows .exit)) (now (cells .exit)) ≡ converted (callees left) d g t actual expected row (machine (now (rows .entry)) (now (cells .entry)) self) ⌝ }
+    {
+        let q1 = self.universe(left, rows, cells, d, g, actual);
+        let Two::Pair(s1, i, _) = q1 else {
+            return q1.as_got();
+        };
+        let q2 = s1.universe(left, rows, cells, d, g, expected);
+        let Two::Pair(s2, j, formed) = q2 else {
+            return q2.as_got();
+        };
+        if i != j {
+            return Got::Refused(s2, codes::LEVELS);
+        }
+        let q3 = s2.prepare(left, rows, cells, kinds::UNIVERSE, i, 0);
+        let Got::Is(s3, u) = q3 else {
+            return q3;
+        };
+        let q4 = s3.equal(left, rows, cells, d, g, actual, expected, u);
+        let Got::Is(s4, equality) = q4 else {
+            return q4;
+        };
+        let refs = cite3(row, equality, formed);
+        s4.emit_has(rows, cells, codes::TYPE_CONV, refs, d, g, t, expected)
+    }
+
+    // A type with its head exposed, as a conversion.
+    pub fn head(
+        self,
+        left: u32,
+        rows: &mut [u32],
+        cells: &mut [u32],
+        d: u32,
+        g: u32,
+        t: u32,
+        ty: u32,
+        row: u32,
+    ) -> Two
+        ensures { λ r. ⌜ end-2 r (now (rows .exit)) (now (cells .exit)) ≡ opened (callees left) d g t ty row (machine (now (rows .entry)) (now (cells .entry)) self) ⌝ }
+    {
+        if self.conversions < 32 {
+            let s1 = self.converting(self.conversions + 1);
+            let q = s1.expose(left, rows, cells, d, g, t, ty, row);
+            return ended_two(q);
+        }
+        Two::Refused(self, codes::CONVERSIONS)
+    }
+
+    // The type of a function, taken apart as a pi, and its row; refuses (9) another.
+    pub fn as_pi(
+        self,
+        left: u32,
+        rows: &mut [u32],
+        cells: &mut [u32],
+        d: u32,
+        g: u32,
+        f: u32,
+        ty: u32,
+        row: u32,
+    ) -> Function
+        ensures { λ r. ⌜ end-3 r (now (rows .exit)) (now (cells .exit)) ≡ as-pi (callees left) d g f ty row (machine (now (rows .entry)) (now (cells .entry)) self) ⌝ }
+    {
+        let shape = shape_of(cells, ty);
+        if let Shape::Pi(a, b) = shape {
+            return Function::Of(self, a, b, row);
+        }
+        let q = self.head(left, rows, cells, d, g, f, ty, row);
+        let Two::Pair(s, normal, typed) = q else {
+            return q.as_function();
+        };
+        let exposed = shape_of(cells, normal);
+        let Shape::Pi(a, b) = exposed else {
+            return Function::Refused(s, codes::NO_FUNCTION);
+        };
+        Function::Of(s, a, b, typed)
+    }
+
+    // The type of a path, taken apart as a path type, and its row; refuses (10) another.
+    pub fn as_path(
+        self,
+        left: u32,
+        rows: &mut [u32],
+        cells: &mut [u32],
+        d: u32,
+        g: u32,
+        p: u32,
+        ty: u32,
+        row: u32,
+    ) -> Four
+        ensures { λ r. ⌜ end-4 r (now (rows .exit)) (now (cells .exit)) ≡ as-path (callees left) d g p ty row (machine (now (rows .entry)) (now (cells .entry)) self) ⌝ }
+    {
+        let shape = shape_of(cells, ty);
+        if let Shape::Path(a, b, c) = shape {
+            return Four::Each(self, a, b, c, row);
+        }
+        let q = self.head(left, rows, cells, d, g, p, ty, row);
+        let Two::Pair(s, normal, typed) = q else {
+            return q.as_four();
+        };
+        let exposed = shape_of(cells, normal);
+        let Shape::Path(a, b, c) = exposed else {
+            return Four::Refused(s, codes::NO_PATH);
+        };
+        Four::Each(s, a, b, c, typed)
+    }
+
+    // The type of a term, and the row that it has it: what is remembered, or found anew.
+    pub fn infer(
+        self,
+        left: u32,
+        rows: &mut [u32],
+        cells: &mut [u32],
+        d: u32,
+        g: u32,
+        t: u32,
+    ) -> Two
+        ensures { λ r. ⌜ end-2 r (now (rows .exit)) (now (cells .exit)) ≡ callees left .infer d g t (machine (now (rows .entry)) (now (cells .entry)) self) ⌝ }
+    {
+        if left == 0 {
+            return Two::Refused(self, codes::NESTING);
+        }
+        let down = left - 1;
+        let s0 = self.deeper(down);
+        match recall(cells, s0.cells, d, g, t) {
+            Recalled::Known(ty, row) => Two::Pair(s0, ty, row),
+            Recalled::Unknown => s0.fresh(down, rows, cells, d, g, t),
+        }
+    }
+
+    // An inference that is not remembered: the type is found, its row made, and both are remembered.
+    pub fn fresh(
+        self,
+        left: u32,
+        rows: &mut [u32],
+        cells: &mut [u32],
+        d: u32,
+        g: u32,
+        t: u32,
+    ) -> Two
+        ensures { λ r. ⌜ end-2 r (now (rows .exit)) (now (cells .exit)) ≡ new-infer (callees left) d g t (machine (now (rows .entry)) (now (cells .entry)) self) ⌝ }
+    {
+        let q1 = self.find(left, rows, cells, d, g, t);
+        let Inferred::Has(s1, ty, refs, rule) = q1 else {
+            return q1.as_two();
+        };
+        let q2 = s1.emit_has(rows, cells, rule, refs, d, g, t, ty);
+        let Got::Is(s2, row) = q2 else {
+            return q2.as_two();
+        };
+        let q3 = s2.remember(rows, cells, d, g, t, ty, row);
+        let Done::Ready(s3) = q3 else {
+            return q3.as_two();
+        };
+        Two::Pair(s3, ty, row)
+    }
+
+    // The type of a term, the rows to cite and the rule.
+    pub fn find(
+        self,
+        left: u32,
+        rows: &mut [u32],
+        cells: &mut [u32],
+        d: u32,
+        g: u32,
+        t: u32,
+    ) -> Inferred
+        ensures { λ r. ⌜ end-found r (now (rows .exit)) (now (cells .exit)) ≡ find (callees left) d g t (machine (now (rows .entry)) (now (cells .entry)) self) ⌝ }
+    {
+        let cell = read(cells, t);
+        let kind = cell.kind;
+        match kind {
+            kinds::UNIVERSE => {
+                let up = succ(cell.a);
+                return self.of_atom(left, rows, cells, d, g, kinds::UNIVERSE, up, codes::TYPE_U);
+            }
+            kinds::VAR => {
+                return self.of_v(left, rows, cells, d, g, cell.a);
+            }
+            kinds::NAT => {
+                return self.of_atom(left, rows, cells, d, g, kinds::UNIVERSE, 0, codes::TYPE_NAT);
+            }
+            kinds::ZERO => {
+                return self.of_atom(left, rows, cells, d, g, kinds::NAT, 0, codes::TYPE_ZERO);
+            }
+            _ => {}
+        }
+        self.find_of(left, rows, cells, d, g, cell)
+    }
+
+    // The same of a term that has parts.
+    pub fn find_of(
+        self,
+        left: u32,
+        rows: &mut [u32],
+        cells: &mut [u32],
+        d: u32,
+        g: u32,
+        cell: Cell,
+    ) -> Inferred
+        ensures { λ r. ⌜ end-found r (now (rows .exit)) (now (cells .exit)) ≡ find-compound (callees left) d g cell (machine (now (rows .entry)) (now (cells .entry)) self) ⌝ }
+    {
+        let kind = cell.kind;
+        match kind {
+            kinds::PI => {
+                return self.of_pi(left, rows, cells, d, g, cell.a, cell.b);
+            }
+            kinds::LAM => {
+                return self.of_lam(left, rows, cells, d, g, cell.a, cell.b);
+            }
+            kinds::APP => {
+                return self.of_app(left, rows, cells, d, g, cell.a, cell.b);
+            }
+            kinds::PATH => {
+                return self.of_path(left, rows, cells, d, g, cell.a, cell.b, cell.c);
+            }
+            kinds::PLAM => {
+                return self.of_plam(left, rows, cells, d, g, cell.a, cell.b);
+            }
+            _ => {}
+        }
+        self.of_papp(left, rows, cells, d, g, cell.a, cell.b)
+    }
+
+    // A universe, nat or zero: the type is a cell of the kind with the number.
+    pub fn of_atom(
+        self,
+        left: u32,
+        rows: &mut [u32],
+        cells: &mut [u32],
+        d: u32,
+        g: u32,
+        kind: u32,
+        n: u32,
+        rule: u32,
+    ) -> Inferred
+        ensures { λ r. ⌜ end-found r (now (rows .exit)) (now (cells .exit)) ≡ find-atom (callees left) d g kind n rule (machine (now (rows .entry)) (now (cells .entry)) self) ⌝ }
+    {
+        let q1 = self.ctx(left, rows, cells, d, g);
+        let Got::Is(s1, x) = q1 else {
+            return q1.as_inferred();
+        };
+        let q2 = s1.intern(rows, cells, kind, n, 0, 0);
+        let Got::Is(s2, ty) = q2 else {
+            return q2.as_inferred();
+        };
+        let refs = cite1(x);
+        Inferred::Has(s2, ty, refs, rule)
+    }
+
+    // A variable has the type that the context gives it.
+    pub fn of_v(
+        self,
+        left: u32,
+        rows: &mut [u32],
+        cells: &mut [u32],
+        d: u32,
+        g: u32,
+        n: u32,
+    ) -> Inferred
+        ensures { λ r. ⌜ end-found r (now (rows .exit)) (now (cells .exit)) ≡ find-var (callees left) d g n (machine (now (rows .entry)) (now (cells .entry)) self) ⌝ }
+    {
+        let q1 = self.ctx(left, rows, cells, d, g);
+        let Got::Is(s1, x) = q1 else {
+            return q1.as_inferred();
+        };
+        let q2 = s1.lookup(left, rows, cells, g, n);
+        let Two::Pair(s2, ty, y) = q2 else {
+            return q2.as_inferred();
+        };
+        let refs = cite2(x, y);
+        Inferred::Has(s2, ty, refs, codes::TYPE_V)
+    }
+
+    // A pi lies in the greater of its parts' universes.
+    pub fn of_pi(
+        self,
+        left: u32,
+        rows: &mut [u32],
+        cells: &mut [u32],
+        d: u32,
+        g: u32,
+        a: u32,
+        b: u32,
+    ) -> Inferred
+        ensures { λ r. ⌜ end-found r (now (rows .exit)) (now (cells .exit)) ≡ find-pi (callees left) d g a b (machine (now (rows .entry)) (now (cells .entry)) self) ⌝ }
+    {
+        let q1 = self.universe(left, rows, cells, d, g, a);
+        let Two::Pair(s1, i, x) = q1 else {
+            return q1.as_inferred();
+        };
+        let q2 = s1.prepare(left, rows, cells, kinds::CONS, a, g);
+        let Got::Is(s2, h) = q2 else {
+            return q2.as_inferred();
+        };
+        let q3 = s2.universe(left, rows, cells, d, h, b);
+        let Two::Pair(s3, j, y) = q3 else {
+            return q3.as_inferred();
+        };
+        let q4 = s3.max(left, rows, cells, i, j);
+        let Got::Is(s4, z) = q4 else {
+            return q4.as_inferred();
+        };
+        let top = greater(i, j);
+        let q5 = s4.intern(rows, cells, kinds::UNIVERSE, top, 0, 0);
+        let Got::Is(s5, ty) = q5 else {
+            return q5.as_inferred();
+        };
+        let refs = cite3(x, y, z);
+        Inferred::Has(s5, ty, refs, codes::TYPE_PI)
+    }
+
+    // A lam has the pi from its annotation to the type of its body.
+    pub fn of_lam(
+        self,
+        left: u32,
+        rows: &mut [u32],
+        cells: &mut [u32],
+        d: u32,
+        g: u32,
+        a: u32,
+        body: u32,
+    ) -> Inferred
+        ensures { λ r. ⌜ end-found r (now (rows .exit)) (now (cells .exit)) ≡ find-lam (callees left) d g a body (machine (now (rows .entry)) (now (cells .entry)) self) ⌝ }
+    {
+        let q1 = self.universe(left, rows, cells, d, g, a);
+        let Two::Pair(s1, _, x) = q1 else {
+            return q1.as_inferred();
+        };
+        let q2 = s1.prepare(left, rows, cells, kinds::CONS, a, g);
+        let Got::Is(s2, h) = q2 else {
+            return q2.as_inferred();
+        };
+        let q3 = s2.infer(left, rows, cells, d, h, body);
+        let Two::Pair(s3, b, y) = q3 else {
+            return q3.as_inferred();
+        };
+        let q4 = s3.prepare(left, rows, cells, kinds::CONS, a, g);
+        let Got::Is(s4, k) = q4 else {
+            return q4.as_inferred();
+        };
+        let q5 = s4.universe(left, rows, cells, d, k, b);
+        let Two::Pair(s5, _, z) = q5 else {
+            return q5.as_inferred();
+        };
+        let q6 = s5.intern(rows, cells, kinds::PI, a, b, 0);
+        let Got::Is(s6, ty) = q6 else {
+            return q6.as_inferred();
+        };
+        let refs = cite3(x, y, z);
+        Inferred::Has(s6, ty, refs, codes::TYPE_LAM)
+    }
+
+    // An application has the codomain, with the argument put in.
+    pub fn of_app(
+        self,
+        left: u32,
+        rows: &mut [u32],
+        cells: &mut [u32],
+        d: u32,
+        g: u32,
+        f: u32,
+        a: u32,
+    ) -> Inferred
+        ensures { λ r. ⌜ end-found r (now (rows .exit)) (now (cells .exit)) ≡ find-app (callees left) d g f a (machine (now (rows .entry)) (now (cells .entry)) self) ⌝ }
+    {
+        let q1 = self.infer(left, rows, cells, d, g, f);
+        let Two::Pair(s1, fty, row) = q1 else {
+            return q1.as_inferred();
+        };
+        let q2 = s1.as_pi(left, rows, cells, d, g, f, fty, row);
+        let Function::Of(s2, domain, codomain, x) = q2 else {
+            return q2.as_inferred();
+        };
+        let q3 = s2.check(left, rows, cells, d, g, a, domain);
+        let Got::Is(s3, y) = q3 else {
+            return q3.as_inferred();
+        };
+        let q4 = s3.transform(left, rows, cells, codomain, Op::Subst(0, a));
+        let Two::Pair(s4, out, z) = q4 else {
+            return q4.as_inferred();
+        };
+        let refs = cite3(x, y, z);
+        Inferred::Has(s4, out, refs, codes::TYPE_APP)
+    }
+
+    // Both ends of a term: at i0, and at i1.
+    pub fn ends(self, left: u32, rows: &mut [u32], cells: &mut [u32], t: u32) -> Four
+        ensures { λ r. ⌜ end-4 r (now (rows .exit)) (now (cells .exit)) ≡ ends (callees left) t (machine (now (rows .entry)) (now (cells .entry)) self) ⌝ }
+    {
+        let q1 = self.prepare(left, rows, cells, kinds::I0, 0, 0);
+        let Got::Is(s1, i0) = q1 else {
+            return q1.as_four();
+        };
+        let q2 = s1.transform(left, rows, cells, t, Op::DSubst(0, i0));
+        let Two::Pair(s2, low, x) = q2 else {
+            return q2.as_four();
+        };
+        let q3 = s2.prepare(left, rows, cells, kinds::I1, 0, 0);
+        let Got::Is(s3, i1) = q3 else {
+            return q3.as_four();
+        };
+        let q4 = s3.transform(left, rows, cells, t, Op::DSubst(0, i1));
+        let Two::Pair(s4, high, y) = q4 else {
+            return q4.as_four();
+        };
+        Four::Each(s4, low, high, x, y)
+    }
+
+    // A path type lies in the universe of its family.
+    pub fn of_path(
+        self,
+        left: u32,
+        rows: &mut [u32],
+        cells: &mut [u32],
+        d: u32,
+        g: u32,
+        a: u32,
+        b: u32,
+        c: u32,
+    ) -> Inferred
+        ensures { λ r. ⌜ end-found r (now (rows .exit)) (now (cells .exit)) ≡ find-path (callees left) d g a b c (machine (now (rows .entry)) (now (cells .entry)) self) ⌝ }
+    {
+        let q1 = self.ctx(left, rows, cells, d, g);
+        let Got::Is(s1, x0) = q1 else {
+            return q1.as_inferred();
+        };
+        let q2 = s1.dshiftctx(left, rows, cells, g);
+        let Two::Pair(s2, inner, x1) = q2 else {
+            return q2.as_inferred();
+        };
+        let up = succ(d);
+        let q3 = s2.universe(left, rows, cells, up, inner, a);
+        let Two::Pair(s3, level, x2) = q3 else {
+            return q3.as_inferred();
+        };
+        s3.path_ends(left, rows, cells, d, g, a, b, c, level, x0, x1, x2)
+    }
+
+    // The ends of a path type are checked.
+    pub fn path_ends(
+        self,
+        left: u32,
+        rows: &mut [u32],
+        cells: &mut [u32],
+        d: u32,
+        g: u32,
+        a: u32,
+        b: u32,
+        c: u32,
+        level: u32,
+        x0: u32,
+        x1: u32,
+        x2: u32,
+    ) -> Inferred
+        ensures { λ r. ⌜ end-found r (now (rows .exit)) (now (cells .exit)) ≡ path-ends (callees left) d g a b c level x0 x1 x2 (machine (now (rows .entry)) (now (cells .entry)) self) ⌝ }
+    {
+        let q1 = self.ends(left, rows, cells, a);
+        let Four::Each(s1, low, high, x3, x4) = q1 else {
+            return q1.as_inferred();
+        };
+        let q2 = s1.check(left, rows, cells, d, g, b, low);
+        let Got::Is(s2, x5) = q2 else {
+            return q2.as_inferred();
+        };
+        let q3 = s2.check(left, rows, cells, d, g, c, high);
+        let Got::Is(s3, x6) = q3 else {
+            return q3.as_inferred();
+        };
+        let q4 = s3.intern(rows, cells, kinds::UNIVERSE, level, 0, 0);
+        let Got::Is(s4, ty) = q4 else {
+            return q4.as_inferred();
+        };
+        let refs = cite7(x0, x1, x2, x3, x4, x5, x6);
+        Inferred::Has(s4, ty, refs, codes::TYPE_PATH)
+    }
+
+    // A plam has the path type between the ends of its body.
+    pub fn of_plam(
+        self,
+        left: u32,
+        rows: &mut [u32],
+        cells: &mut [u32],
+        d: u32,
+        g: u32,
+        a: u32,
+        body: u32,
+    ) -> Inferred
+        ensures { λ r. ⌜ end-found r (now (rows .exit)) (now (cells .exit)) ≡ find-plam (callees left) d g a body (machine (now (rows .entry)) (now (cells .entry)) self) ⌝ }
+    {
+        let q1 = self.ctx(left, rows, cells, d, g);
+        let Got::Is(s1, x0) = q1 else {
+            return q1.as_inferred();
+        };
+        let q2 = s1.dshiftctx(left, rows, cells, g);
+        let Two::Pair(s2, inner, x1) = q2 else {
+            return q2.as_inferred();
+        };
+        let up = succ(d);
+        let q3 = s2.universe(left, rows, cells, up, inner, a);
+        let Two::Pair(s3, _, x2) = q3 else {
+            return q3.as_inferred();
+        };
+        let q4 = s3.check(left, rows, cells, up, inner, body, a);
+        let Got::Is(s4, x3) = q4 else {
+            return q4.as_inferred();
+        };
+        s4.plam_ends(left, rows, cells, d, g, a, body, x0, x1, x2, x3)
+    }
+
+    // The ends of a plam's body are checked against those of its family.
+    pub fn plam_ends(
+        self,
+        left: u32,
+        rows: &mut [u32],
+        cells: &mut [u32],
+        d: u32,
+        g: u32,
+        a: u32,
+        body: u32,
+        x0: u32,
+        x1: u32,
+        x2: u32,
+        x3: u32,
+    ) -> Inferred
+        ensures { λ r. ⌜ end-found r (now (rows .exit)) (now (cells .exit)) ≡ plam-ends (callees left) d g a body x0 x1 x2 x3 (machine (now (rows .entry)) (now (cells .entry)) self) ⌝ }
+    {
+        let q1 = self.ends(left, rows, cells, a);
+        let Four::Each(s1, a0, a1, x4, x5) = q1 else {
+            return q1.as_inferred();
+        };
+        let q2 = s1.ends(left, rows, cells, body);
+        let Four::Each(s2, t0, t1, x6, x7) = q2 else {
+            return q2.as_inferred();
+        };
+        let q3 = s2.check(left, rows, cells, d, g, t0, a0);
+        let Got::Is(s3, x8) = q3 else {
+            return q3.as_inferred();
+        };
+        let q4 = s3.check(left, rows, cells, d, g, t1, a1);
+        let Got::Is(s4, x9) = q4 else {
+            return q4.as_inferred();
+        };
+        let q5 = s4.intern(rows, cells, kinds::PATH, a, t0, t1);
+        let Got::Is(s5, ty) = q5 else {
+            return q5.as_inferred();
+        };
+        let refs = cite10(x0, x1, x2, x3, x4, x5, x6, x7, x8, x9);
+        Inferred::Has(s5, ty, refs, codes::TYPE_PLAM)
+    }
+
+    // A path that is applied has the family, with the interval put in.
+    pub fn of_papp(
+        self,
+        left: u32,
+        rows: &mut [u32],
+        cells: &mut [u32],
+        d: u32,
+        g: u32,
+        p: u32,
+        r: u32,
+    ) -> Inferred
+        ensures { λ x. ⌜ end-found x (now (rows .exit)) (now (cells .exit)) ≡ find-papp (callees left) d g p r (machine (now (rows .entry)) (now (cells .entry)) self) ⌝ }
+    {
+        let q1 = self.infer(left, rows, cells, d, g, p);
+        let Two::Pair(s1, pty, row) = q1 else {
+            return q1.as_inferred();
+        };
+        let q2 = s1.as_path(left, rows, cells, d, g, p, pty, row);
+        let Four::Each(s2, family, _, _, x) = q2 else {
+            return q2.as_inferred();
+        };
+        let q3 = s2.interval(left, rows, cells, d, r);
+        let Got::Is(s3, y) = q3 else {
+            return q3.as_inferred();
+        };
+        let q4 = s3.transform(left, rows, cells, family, Op::DSubst(0, r));
+        let Two::Pair(s4, out, z) = q4 else {
+            return q4.as_inferred();
+        };
+        let q5 = s4.universe(left, rows, cells, d, g, out);
+        let Two::Pair(s5, _, u) = q5 else {
+            return q5.as_inferred();
+        };
+        let refs = cite4(x, y, z, u);
+        Inferred::Has(s5, out, refs, codes::TYPE_PAPP)
+    }
+}

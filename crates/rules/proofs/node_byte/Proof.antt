@@ -1,0 +1,40 @@
+-- `rules::node_byte` meets its contract: the table is the list of the names' bytes, which antt computes.
+use Prim.Native.Nat.{_<_, _≤_}
+use borrow.Author.Needs.{needs}
+use native.Mathlib.Omega.{arith}
+use lib.ListN.{length}
+use Rattle.rules.specs.Names.{node-name}
+use Rattle.rules.proofs.Named.{byte-past}
+use Rattle.rules.proofs.Past.{node-within, node-in}
+use Rattle.rules.proofs.node_byte.Statement.{statement}
+use Rattle.rules.proofs.node_byte.Tie as tie
+
+inside : (c : tie.Then1) → c .before .before .args .k < length (node-name (c .before .before .args .n))
+inside c = rw (← c .before .node-length .ensures) (c .if1 .taken)
+
+outside : (c : tie.Else1) → length (node-name (c .before .before .args .n)) ≤ c .before .before .args .k
+outside c = rw (← c .before .node-length .ensures) (c .if1 .left)
+
+node-length-requires : tie.Need-node-length-requires
+node-length-requires c κs = search needs
+
+mul-result : tie.Need-mul-result
+mul-result c = search needs
+
+add-result : tie.Need-add-result
+add-result c = omega (arith, node-within _ _ (inside c))
+
+array-read-result : tie.Need-array-read-result
+array-read-result c = node-within _ _ (inside c) .spot
+
+returns : tie.Need-returns
+unfolding node-name
+returns c = node-in (c .before .before .args .n) (c .before .before .args .k) (inside c)
+
+returns-2 : tie.Need-returns-2
+returns-2 c = byte-past (node-name (c .before .before .args .n)) (c .before .before .args .k) (outside c)
+
+pub node-byte-spec : {M : Type 1} → statement M
+node-byte-spec =
+    tie.close
+    (tie.spec node-length-requires mul-result add-result array-read-result returns returns-2)

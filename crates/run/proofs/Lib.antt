@@ -1,0 +1,4 @@
+-- Laws for the proofs of this crate.
+pub mod At
+pub mod Laws
+pub mod Steps

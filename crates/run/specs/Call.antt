@@ -1,0 +1,55 @@
+-- One call over the bytes of the run: its row and its result.
+use Prim.Native.Nat.{ℕ}
+use mathlib.Core.List.{List}
+use lib.Dec.{eqb}
+use Rattle.ast.specs.Words.{up}
+use Rattle.producer.specs.Machine.{W, _>>=_, give, when_then_else_, intern}
+use Rattle.producer.specs.Callees.{prepared}
+use Rattle.producer.specs.Calls.{callees}
+use Rattle.run.specs.Build.{byte-at, built, scoped}
+
+-- a row with no result, and a result before its row
+unfoldable pub row-alone : W ℕ → W (ℕ × ℕ)
+row-alone m = m >>= λ row. give (row, 0)
+
+unfoldable pub row-first : W (ℕ × ℕ) → W (ℕ × ℕ)
+row-first m = do
+  (result, row) ← m
+  give (row, result)
+
+-- equal: two sides are made, the type is still to come
+unfoldable pub with-sides : ℕ → List ℕ → (at d g a b : ℕ) → W (ℕ × ℕ)
+with-sides left bytes at d g a b = do
+  (ty, _) ← built 33 bytes at
+  row-alone (callees left .equal d g a b ty)
+
+-- check, normalise or equal: the first term is made
+unfoldable pub with-term : ℕ → List ℕ → (at code d g t : ℕ) → W (ℕ × ℕ)
+with-term left bytes at code d g t = do
+  (u, next) ← built 33 bytes at
+  when eqb code 3 then row-alone (callees left .check d g t u)
+      else
+      (when eqb code 4 then row-first (callees left .normalize d g t u)
+      else with-sides left bytes next d g t u)
+
+-- the function of a code, whose terms start at an offset
+unfoldable pub by-code : ℕ → List ℕ → (at code d g : ℕ) → W (ℕ × ℕ)
+by-code left bytes at code d g =
+    when eqb code 0 then row-alone (callees left .ctx d g)
+    else (do
+      (t, next) ← built 33 bytes at
+      when eqb code 1 then row-first (callees left .universe d g t)
+          else
+          (when eqb code 2 then row-first (callees left .infer d g t)
+          else with-term left bytes next code d g t))
+
+-- the call at an offset, with `left` entries allowed: the function is entered, then its arguments are made
+unfoldable pub called-in : ℕ → List ℕ → ℕ → W (ℕ × ℕ)
+called-in left bytes at = do
+  nil ← prepared (callees left) (intern 32 0 0 0)
+  (g, terms) ← scoped (byte-at bytes (up (up at))) bytes (up (up (up at))) nil
+  by-code left bytes terms (byte-at bytes at) (byte-at bytes (up at)) g
+
+-- the whole limit is left
+unfoldable pub called : List ℕ → ℕ → W (ℕ × ℕ)
+called bytes at = λ w. called-in (w .state .limit) bytes at w

@@ -1,0 +1,4 @@
+-- The model of a run over words.
+pub mod Build
+pub mod Call
+pub mod Run

@@ -1,0 +1,112 @@
+-- The run over words: its own answer, and the words of the three slices after it.
+use Prim.Native.Nat.{ℕ, zero, suc, _+_, _*_, _/_, _%_}
+use mathlib.Core.List.{List, [], _∷_}
+use lib.Dec.{ltb}
+use lib.ListN.{length}
+use lib.Seq.{sets}
+use Rattle.ast.specs.Words.{ifb, up}
+use Rattle.producer.specs.declared.state.State.{State}
+use Rattle.producer.specs.declared.state.Two.{Two}
+use Rattle.producer.specs.declared.state.Two.the-variants.{Pair, Refused as Failed}
+use Rattle.producer.specs.Machine.{Machine, machine, Result, is, not}
+use Rattle.syntax.specs.declared.limits.Size.{Size}
+use Rattle.syntax.specs.declared.limits.Size.the-variants.{Fits, Refused, Bad, Short}
+use Rattle.syntax.specs.declared.scan.Scanned.{Scanned}
+use Rattle.syntax.specs.declared.scan.Scanned.the-variants.{Calls, Refused as Unread}
+use Rattle.syntax.specs.Told.{call-at, size-in, scanned}
+use Rattle.run.specs.declared.entry.Ran.{Ran}
+use Rattle.run.specs.declared.entry.Turn.{Turn}
+use Rattle.run.specs.Call.{called}
+
+-- a word of a number, and a number that is at most a word
+unfoldable pub low-of : ℕ → ℕ
+low-of n = n % 4294967296
+
+unfoldable pub at-most : ℕ → ℕ → ℕ
+at-most n most = ifb (ltb most n) most (low-of n)
+
+-- no rows, cells or memory, in slices of so many words
+unfoldable pub started : ℕ → ℕ → ℕ → State
+started limit rows cells = record { rows = 0; cells = 0; conversions = 0; deepest = 0; limit = low-of limit; rowroom = at-most (rows / 24) 50000; cellroom = at-most (cells / 8) 4294967295 }
+
+-- deepest starts from 0 in each call
+unfoldable pub fresh : State → State
+fresh s = record { rows = s .rows; cells = s .cells; conversions = s .conversions; deepest = 0; limit = s .limit; rowroom = s .rowroom; cellroom = s .cellroom }
+
+-- what a call leaves: its answer, where the next one starts, and the machine
+pub record Told : Type 0 where
+  pub number : ℕ
+  pub row : ℕ
+  pub result : ℕ
+  pub deepest : ℕ
+  pub next : ℕ
+  pub left : Machine
+
+abbrev pub turn-end : Turn → List ℕ → List ℕ → Told
+turn-end t R C = record { number = t .number; row = t .row; result = t .result; deepest = t .deepest; next = t .next; left = machine R C (t .state) }
+
+unfoldable pub refused-of : State → (number next : ℕ) → Turn
+refused-of s number next = record { state = s; number = number; row = 4294967295; result = 0; deepest = 0; next = next }
+
+unfoldable pub answered-of : Two → ℕ → Turn
+answered-of (Pair s row result) next = record { state = s; number = 0; row = row; result = result; deepest = s .deepest; next = next }
+answered-of (Failed s e) next = record { state = s; number = e; row = 4294967295; result = 0; deepest = s .deepest; next = next }
+
+unfoldable pub told : Result (ℕ × ℕ) → ℕ → Told
+told (is a w) next = record { number = 0; row = a .0; result = a .1; deepest = w .state .deepest; next = next; left = w }
+told (not e w) next = record { number = e; row = 4294967295; result = 0; deepest = w .state .deepest; next = next; left = w }
+
+-- a call of a size: in a run that was read, none is bad or short
+unfoldable pub turned-by : Size → List ℕ → ℕ → Machine → Told
+turned-by (Fits n next) bytes at w = told (called bytes (low-of at) (machine (w .rows) (w .cells) (fresh (w .state)))) next
+turned-by (Refused number next) bytes at w = turn-end (refused-of (w .state) number next) (w .rows) (w .cells)
+turned-by (Bad place) bytes at w = turn-end (refused-of (w .state) 3 place) (w .rows) (w .cells)
+turned-by Short bytes at w = turn-end (refused-of (w .state) 3 at) (w .rows) (w .cells)
+
+-- the call at an offset, read over a stack of so many bytes
+unfoldable pub turned : ℕ → List ℕ → ℕ → Machine → Told
+turned room bytes at w = turned-by (size-in (ltb room (2 * length bytes + 1)) (call-at bytes at)) bytes at w
+
+-- so many calls from an offset on, of which `done` were played before: the machine, and the answers' words
+pub record Played : Type 0 where
+  pub left : Machine
+  pub answers : List ℕ
+
+abbrev pub play-end : State → List ℕ → List ℕ → List ℕ → Played
+play-end s R C A = record { left = machine R C s; answers = A }
+
+unfoldable pub played : (left room : ℕ) → List ℕ → (at done : ℕ) → Machine → List ℕ → Played
+played zero room bytes at done w A = record { left = w; answers = A }
+played (suc left) room bytes at done w A =
+    let t = turned room bytes at w in
+    played left room bytes (t .next) (up done) (t .left) (sets A (done * 4) (t .number ∷ t .row ∷ t .result ∷ t .deepest ∷ []))
+
+-- the run's answer with the slices after it
+pub record Ended : Type 0 where
+  pub ran : Ran
+  pub rows : List ℕ
+  pub cells : List ℕ
+  pub answers : List ℕ
+
+abbrev pub end-run : Ran → List ℕ → List ℕ → List ℕ → Ended
+end-run r R C A = record { ran = r; rows = R; cells = C; answers = A }
+
+unfoldable pub refused-run : (number place : ℕ) → Ran
+refused-run number place = record { number = number; place = low-of place; calls = 0; rows = 0; cells = 0 }
+
+unfoldable pub read-run : ℕ → Played → Ended
+read-run calls p = end-run (record { number = 0; place = 0; calls = calls; rows = p .left .state .rows; cells = p .left .state .cells }) (p .left .rows) (p .left .cells) (p .answers)
+
+-- the stack of the reader has 131,073 bytes
+unfoldable pub run-by : Scanned → List ℕ → List ℕ → List ℕ → List ℕ → Ended
+run-by (Unread number place) bytes R C A = end-run (refused-run number place) R C A
+run-by (Calls limit calls) bytes R C A =
+    ifb (ltb (length A / 4) calls) (end-run (refused-run 4 0) R C A)
+    (read-run (low-of calls) (played (low-of calls) 131073 bytes 2 0 (machine R C (started limit (length R) (length C))) A))
+
+-- refusals 1 to 4, the lowest first; else the calls are played
+unfoldable pub run-of : List ℕ → List ℕ → List ℕ → List ℕ → Ended
+run-of bytes R C A =
+    ifb (ltb (length R) 24) (end-run (refused-run 1 0) R C A)
+    (ifb (ltb (length C) 8) (end-run (refused-run 1 0) R C A)
+    (run-by (scanned bytes) bytes R C A))

@@ -1,0 +1,141 @@
+// One call: its arguments are made, and its reference function is entered. The first function of a call counts as entered before
+// its arguments take cells: 19, deepest, then 20.
+ghost use mathlib.Core.Path.{_≡_};
+ghost use Rattle.producer.specs.Machine.{machine, end-2};
+ghost use Rattle.run.specs.Call.{with-term, with-sides, by-code, called};
+use crate::build::DEPTH;
+use crate::build::build;
+use crate::build::byte;
+use crate::build::scope;
+use ast::kinds::NIL;
+use ast::words::succ;
+use producer::state::Got;
+use producer::state::State;
+use producer::state::Two;
+
+// The row and the result of the call at `at`, or its refusal.
+pub fn call(state: State, bytes: &[u8], at: u32, rows: &mut [u32], cells: &mut [u32]) -> Two
+    ensures { λ r. ⌜ end-2 r (now (rows .exit)) (now (cells .exit)) ≡ called (now (bytes .entry)) at (machine (now (rows .entry)) (now (cells .entry)) state) ⌝ }
+{
+    let left = state.limit;
+    let code = byte(bytes, at);
+    let second = succ(at);
+    let d = byte(bytes, second);
+    let third = succ(second);
+    let count = byte(bytes, third);
+    let types = succ(third);
+    match state.prepare(left, rows, cells, NIL, 0, 0) {
+        Got::Is(s1, nil) => {
+            let q = scope(s1, count, bytes, types, rows, cells, nil);
+            let Two::Pair(s2, g, terms) = q else {
+                return q;
+            };
+            enter(s2, left, bytes, terms, rows, cells, code, d, g)
+        }
+        Got::Refused(s1, e) => Two::Refused(s1, e),
+    }
+}
+
+// Enters the function of a code; its terms start at `at`.
+pub fn enter(
+    state: State,
+    left: u32,
+    bytes: &[u8],
+    at: u32,
+    rows: &mut [u32],
+    cells: &mut [u32],
+    code: u32,
+    d: u32,
+    g: u32,
+) -> Two
+    ensures { λ r. ⌜ end-2 r (now (rows .exit)) (now (cells .exit)) ≡ by-code left (now (bytes .entry)) at code d g (machine (now (rows .entry)) (now (cells .entry)) state) ⌝ }
+{
+    if code == 0 {
+        return match state.ctx(left, rows, cells, d, g) {
+            Got::Is(s, row) => Two::Pair(s, row, 0),
+            Got::Refused(s, e) => Two::Refused(s, e),
+        };
+    }
+    let q = build(state, DEPTH, bytes, at, rows, cells);
+    let Two::Pair(s1, t, next) = q else {
+        return q;
+    };
+    match code {
+        1 => {
+            return match s1.universe(left, rows, cells, d, g, t) {
+                Two::Pair(s, level, row) => Two::Pair(s, row, level),
+                Two::Refused(s, e) => Two::Refused(s, e),
+            };
+        }
+        2 => {
+            return match s1.infer(left, rows, cells, d, g, t) {
+                Two::Pair(s, ty, row) => Two::Pair(s, row, ty),
+                Two::Refused(s, e) => Two::Refused(s, e),
+            };
+        }
+        _ => {}
+    }
+    enter_two(s1, left, bytes, next, rows, cells, code, d, g, t)
+}
+
+// A function of two terms or three, the first of which is made.
+pub fn enter_two(
+    state: State,
+    left: u32,
+    bytes: &[u8],
+    at: u32,
+    rows: &mut [u32],
+    cells: &mut [u32],
+    code: u32,
+    d: u32,
+    g: u32,
+    t: u32,
+) -> Two
+    ensures { λ r. ⌜ end-2 r (now (rows .exit)) (now (cells .exit)) ≡ with-term left (now (bytes .entry)) at code d g t (machine (now (rows .entry)) (now (cells .entry)) state) ⌝ }
+{
+    let q = build(state, DEPTH, bytes, at, rows, cells);
+    let Two::Pair(s1, u, next) = q else {
+        return q;
+    };
+    match code {
+        3 => {
+            return match s1.check(left, rows, cells, d, g, t, u) {
+                Got::Is(s, row) => Two::Pair(s, row, 0),
+                Got::Refused(s, e) => Two::Refused(s, e),
+            };
+        }
+        4 => {
+            return match s1.normalize(left, rows, cells, d, g, t, u) {
+                Two::Pair(s, normal, row) => Two::Pair(s, row, normal),
+                Two::Refused(s, e) => Two::Refused(s, e),
+            };
+        }
+        _ => {}
+    }
+    enter_equal(s1, left, bytes, next, rows, cells, d, g, t, u)
+}
+
+// The last term is the type at which two are equal.
+pub fn enter_equal(
+    state: State,
+    left: u32,
+    bytes: &[u8],
+    at: u32,
+    rows: &mut [u32],
+    cells: &mut [u32],
+    d: u32,
+    g: u32,
+    a: u32,
+    b: u32,
+) -> Two
+    ensures { λ r. ⌜ end-2 r (now (rows .exit)) (now (cells .exit)) ≡ with-sides left (now (bytes .entry)) at d g a b (machine (now (rows .entry)) (now (cells .entry)) state) ⌝ }
+{
+    let q = build(state, DEPTH, bytes, at, rows, cells);
+    let Two::Pair(s1, ty, _) = q else {
+        return q;
+    };
+    match s1.equal(left, rows, cells, d, g, a, b, ty) {
+        Got::Is(s, row) => Two::Pair(s, row, 0),
+        Got::Refused(s, e) => Two::Refused(s, e),
+    }
+}

@@ -1,0 +1,230 @@
+// The entry: a run of bytes over the three lent slices. A run that is refused as a whole changes nothing; words past the used ones stay.
+ghost use mathlib.Core.Path.{_≡_};
+ghost use Prim.Native.Nat.{_*_};
+ghost use lib.Seq.{sets};
+ghost use mathlib.Core.List.{[], _∷_};
+ghost use Rattle.producer.specs.Machine.{machine};
+ghost use lib.ListN.{length};
+ghost use Rattle.run.specs.Run.{low-of, at-most, fresh, started, refused-of, answered-of, turn-end, turned, play-end, played, refused-run, end-run, run-of};
+use crate::call::call;
+use ast::words::put;
+use ast::words::succ;
+use producer::state::State;
+use producer::state::Two;
+use syntax::Scanned;
+use syntax::Size;
+use syntax::scan_run;
+use syntax::size_call;
+
+// The row of a refused call.
+const NO_ROW: u32 = 4294967295;
+
+// What the run answers.
+pub struct Ran {
+    pub number: u32,
+    pub place: u32,
+    pub calls: u32,
+    pub rows: u32,
+    pub cells: u32,
+}
+
+// What a call leaves: the counts, its answer, and where the next one starts.
+pub struct Turn {
+    pub state: State,
+    pub number: u32,
+    pub row: u32,
+    pub result: u32,
+    pub deepest: u32,
+    pub next: usize,
+}
+
+// The low 32 bits.
+fn low(n: usize) -> u32
+    ensures { λ r. ⌜ r ≡ low-of n ⌝ }
+{
+    (n % 4294967296) as u32
+}
+
+// The number, but no more than `most`.
+fn cap(n: usize, most: u32) -> u32
+    ensures { λ r. ⌜ r ≡ at-most n most ⌝ }
+{
+    if (most as usize) < n { most } else { low(n) }
+}
+
+// No rows, cells or memory.
+fn start(limit: usize, rows: usize, cells: usize) -> State
+    ensures { λ r. ⌜ r ≡ started limit rows cells ⌝ }
+{
+    State {
+        rows: 0,
+        cells: 0,
+        conversions: 0,
+        deepest: 0,
+        limit: low(limit),
+        rowroom: cap(rows / 24, 50000),
+        cellroom: cap(cells / 8, 4294967295),
+    }
+}
+
+// A call that is refused before the walk.
+fn refused(state: State, number: u32, next: usize) -> Turn
+    ensures { λ r. ⌜ r ≡ refused-of state number next ⌝ }
+{
+    Turn {
+        state,
+        number,
+        row: NO_ROW,
+        result: 0,
+        deepest: 0,
+        next,
+    }
+}
+
+// A call that was walked.
+fn answered(q: Two, next: usize) -> Turn
+    ensures { λ r. ⌜ r ≡ answered-of q next ⌝ }
+{
+    match q {
+        Two::Pair(s, row, result) => Turn {
+            state: s,
+            number: 0,
+            row,
+            result,
+            deepest: s.deepest,
+            next,
+        },
+        Two::Refused(s, e) => Turn {
+            state: s,
+            number: e,
+            row: NO_ROW,
+            result: 0,
+            deepest: s.deepest,
+            next,
+        },
+    }
+}
+
+// The state of a call that is about to be walked: deepest starts from 0.
+fn begin(state: State) -> State
+    ensures { λ r. ⌜ r ≡ fresh state ⌝ }
+{
+    State {
+        rows: state.rows,
+        cells: state.cells,
+        conversions: state.conversions,
+        deepest: 0,
+        limit: state.limit,
+        rowroom: state.rowroom,
+        cellroom: state.cellroom,
+    }
+}
+
+// The call at `at`: its limits first. In a run that was read, no size is bad or short.
+fn step(
+    state: State,
+    bytes: &[u8],
+    at: usize,
+    stack: &mut [u8],
+    rows: &mut [u32],
+    cells: &mut [u32],
+) -> Turn
+    ensures { λ r. ⌜ turn-end r (now (rows .exit)) (now (cells .exit)) ≡ turned (length (now (stack .entry))) (now (bytes .entry)) at (machine (now (rows .entry)) (now (cells .entry)) state) ⌝ }
+{
+    let size = size_call(bytes, at, stack);
+    match size {
+        Size::Fits(_, next) => {
+            let s = begin(state);
+            let from = low(at);
+            let q = call(s, bytes, from, rows, cells);
+            answered(q, next)
+        }
+        Size::Refused(number, next) => refused(state, number, next),
+        Size::Bad(place) => refused(state, 3, place),
+        Size::Short => refused(state, 3, at),
+    }
+}
+
+// Stores the four words of answer `i`.
+fn put_answer(answers: &mut [u32], i: u32, number: u32, row: u32, result: u32, deepest: u32)
+    ensures { λ _. ⌜ now (answers .exit) ≡ sets (now (answers .entry)) (i * 4) (number ∷ row ∷ result ∷ deepest ∷ []) ⌝ }
+{
+    let at = (i as usize) * 4;
+    put(answers, at, number);
+    put(answers, at + 1, row);
+    put(answers, at + 2, result);
+    put(answers, at + 3, deepest);
+}
+
+// Plays so many calls, the first at offset 2.
+fn play(
+    state: State,
+    calls: u32,
+    bytes: &[u8],
+    stack: &mut [u8],
+    rows: &mut [u32],
+    cells: &mut [u32],
+    answers: &mut [u32],
+) -> State
+    ensures { λ r. ⌜ play-end r (now (rows .exit)) (now (cells .exit)) (now (answers .exit)) ≡ played calls (length (now (stack .entry))) (now (bytes .entry)) 2 0 (machine (now (rows .entry)) (now (cells .entry)) state) (now (answers .entry)) ⌝ }
+{
+    let mut s = state;
+    let mut at: usize = 2;
+    let mut done: u32 = 0;
+    let mut left = calls;
+    while 0 < left {
+        let t = step(s, bytes, at, stack, rows, cells);
+        put_answer(answers, done, t.number, t.row, t.result, t.deepest);
+        s = t.state;
+        at = t.next;
+        done = succ(done);
+        left = left - 1;
+    }
+    s
+}
+
+// A run that is refused as a whole.
+fn no_run(number: u32, place: usize) -> Ran
+    ensures { λ r. ⌜ r ≡ refused-run number place ⌝ }
+{
+    Ran {
+        number,
+        place: low(place),
+        calls: 0,
+        rows: 0,
+        cells: 0,
+    }
+}
+
+// Plays a run. Refusals 1 to 4 are found before anything is stored, the lowest first.
+pub fn run(bytes: &[u8], rows: &mut [u32], cells: &mut [u32], answers: &mut [u32]) -> Ran
+    ensures { λ r. ⌜ end-run r (now (rows .exit)) (now (cells .exit)) (now (answers .exit)) ≡ run-of (now (bytes .entry)) (now (rows .entry)) (now (cells .entry)) (now (answers .entry)) ⌝ }
+{
+    if rows.len() < 24 {
+        return no_run(1, 0);
+    }
+    if cells.len() < 8 {
+        return no_run(1, 0);
+    }
+    let scanned = scan_run(bytes);
+    match scanned {
+        Scanned::Refused(number, place) => no_run(number, place),
+        Scanned::Calls(limit, calls) => {
+            let most = answers.len() / 4;
+            if most < calls {
+                return no_run(4, 0);
+            }
+            let s = start(limit, rows.len(), cells.len());
+            let count = low(calls);
+            let mut stack = [0u8; 131073];
+            let last = play(s, count, bytes, &mut stack, rows, cells, answers);
+            Ran {
+                number: 0,
+                place: 0,
+                calls: count,
+                rows: last.rows,
+                cells: last.cells,
+            }
+        }
+    }
+}

@@ -1,0 +1,17 @@
+// The reader of a run's bytes: whether they are a run, and the limits of its calls.
+pub mod cursor;
+pub mod limits;
+mod parts;
+pub mod scan;
+
+pub use cursor::Reader;
+pub use limits::Size;
+pub use limits::size_call;
+pub use scan::Heading;
+pub use scan::Next;
+pub use scan::Scanned;
+pub use scan::read_head;
+pub use scan::scan_run;
+pub use scan::skip_call;
+pub use scan::skip_term;
+pub use scan::terms_of;

@@ -1,0 +1,153 @@
+// The limits of a call, refusals 5 to 7, in one prefix walk of its bytes: syntax.rs.
+ghost use mathlib.Core.Path.{_≡_};
+ghost use mathlib.Core.Bool.{_||_};
+ghost use Prim.Native.Nat.{ℕ, _+_, _*_, _≤_};
+ghost use lib.Dec.{ltb, leb};
+ghost use lib.ListN.{length};
+ghost use Rattle.walk.specs.Limits.{size-term as walk-size, size-terms as walk-sizes, size-call as walk-call};
+ghost use Rattle.syntax.specs.Told.{term-at, terms-at, call-at, short, size-in};
+ghost use Rattle.syntax.specs.Parts.{Counts, told-size};
+use super::parts::INDEX;
+use super::parts::TERM;
+use super::parts::deeper;
+use super::parts::parts_after;
+use super::parts::push;
+use super::scan::Heading;
+use super::scan::Next;
+use super::scan::read_head;
+use super::scan::skip_call;
+use super::scan::terms_of;
+use super::scan::wide;
+
+// The nodes of a call, or its refusal's number, and the offset past it; the place of a fault; or no room for the stack.
+pub enum Size {
+    Fits(usize, usize),
+    Refused(u32, usize),
+    Bad(usize),
+    Short,
+}
+
+// The nodes so far and the offset reached; the refusal's number; or bytes that are no term.
+pub(crate) enum Counted {
+    Nodes(usize, usize),
+    Refused(u32),
+    Bad,
+}
+
+// Whether a node at this depth, after so many nodes, passes a limit.
+fn limits(depth: u8, nodes: usize) -> bool
+    ensures { λ r. ⌜ r ≡ (ltb 32 depth || leb 10000 nodes) ⌝ }
+{
+    if 32 < depth {
+        return true;
+    }
+    10000 <= nodes
+}
+
+// One term after so many nodes, at depth 0. A word of the stack is a part and three times its depth.
+fn size_term(s: &[u8], from: usize, before: usize, stack: &mut [u8]) -> Counted
+    requires { ⌜ 2 * length (now s) + 1 ≤ length (now stack) ⌝ }
+    ensures { λ r. ⌜ Counts (λ t. walk-size t 0 before) (term-at (now (s .entry)) from) r ⌝ }
+{
+    stack[0] = TERM;
+    let mut height: usize = 1;
+    let mut at = from;
+    let mut nodes = before;
+    while 0 < height {
+        if s.len() <= at {
+            return Counted::Bad;
+        }
+        let top = height - 1;
+        let word = stack[top];
+        let b = s[at];
+        let part = word % 3;
+        let depth = word / 3;
+        if part == INDEX {
+            if 32 < b {
+                return Counted::Refused(7);
+            }
+            height = top;
+            at = at + 1;
+        } else {
+            if limits(depth, nodes) {
+                return Counted::Refused(6);
+            }
+            let p = parts_after(part, b);
+            let n = p.n;
+            if 3 < n {
+                return Counted::Bad;
+            }
+            height = push(stack, top, deeper(p, depth + 1));
+            nodes = nodes + 1;
+            at = at + 1;
+        }
+    }
+    Counted::Nodes(nodes, at)
+}
+
+// So many terms, one after the other, from no nodes.
+fn size_terms(s: &[u8], from: usize, count: usize, stack: &mut [u8]) -> Counted
+    requires { ⌜ 2 * length (now s) + 1 ≤ length (now stack) ⌝ }
+    ensures { λ r. ⌜ Counts (λ ts. walk-sizes ts 0) (terms-at count (now (s .entry)) from) r ⌝ }
+{
+    let mut left = count;
+    let mut at = from;
+    let mut nodes: usize = 0;
+    while 0 < left {
+        let next = size_term(s, at, nodes, stack);
+        let Counted::Nodes(n, p) = next else {
+            return next;
+        };
+        nodes = n;
+        at = p;
+        left = left - 1;
+    }
+    Counted::Nodes(nodes, at)
+}
+
+// A call's dimension count and context length, then its terms.
+fn count_call(s: &[u8], from: usize, stack: &mut [u8]) -> Counted
+    requires { ⌜ 2 * length (now s) + 1 ≤ length (now stack) ⌝ }
+    ensures { λ r. ⌜ Counts walk-call (call-at (now (s .entry)) from) r ⌝ }
+{
+    let head = read_head(s, from);
+    match head {
+        Heading::Bad(_) => Counted::Bad,
+        Heading::Is(code, dims, size) => {
+            if 33 < dims {
+                return Counted::Refused(5);
+            }
+            if 33 < size {
+                return Counted::Refused(5);
+            }
+            let count = wide(size) + terms_of(code);
+            size_terms(s, from + 3, count, stack)
+        }
+    }
+}
+
+// The same, told with the offset past the call.
+fn tell(c: Counted, end: usize) -> Size
+    ensures { λ r. ⌜ r ≡ told-size c end ⌝ }
+{
+    match c {
+        Counted::Nodes(n, _) => Size::Fits(n, end),
+        Counted::Refused(k) => Size::Refused(k, end),
+        Counted::Bad => Size::Bad(end),
+    }
+}
+
+// The call at an offset: it is read first, so that what follows goes over bytes that are a call.
+pub fn size_call(s: &[u8], from: usize, stack: &mut [u8]) -> Size
+    ensures { λ r. ⌜ r ≡ size-in (short (now (stack .entry)) (now (s .entry))) (call-at (now (s .entry)) from) ⌝ }
+{
+    let next = skip_call(s, from, stack);
+    match next {
+        Next::Short => Size::Short,
+        Next::Bad(p) => Size::Bad(p),
+        Next::Past(end) => {
+            let c = count_call(s, from, stack);
+            tell(c, end)
+        }
+    }
+}

@@ -1,0 +1,197 @@
+// Reads a run without making its terms: where each thing ends, or the leftmost place of refusal 3. Terms nest as deep as
+// the bytes go, so what is still to be read stands on a stack that is lent, and its contents do not matter.
+ghost use mathlib.Core.Path.{_≡_};
+ghost use Prim.Native.Nat.{ℕ, _≤_};
+ghost use mathlib.Core.Option.{none};
+ghost use lib.ListN.{length, drop, getD};
+ghost use Rattle.walk.specs.Reader.{codes, read-head as walk-head, read-limit as walk-limit, read-calls};
+ghost use Rattle.syntax.specs.Told.{term-at, terms-at, call-at, short, next-in, head-of, terms-in, limit-of, counted, scanned};
+use super::parts::TERM;
+use super::parts::parts_after;
+use super::parts::push;
+
+// The offset past what was read, the place of a fault, or no room: the stack has under 2 * length + 1 bytes.
+pub enum Next {
+    Past(usize),
+    Bad(usize),
+    Short,
+}
+
+// A call's code, dimension count and context length, or the place of the fault.
+pub enum Heading {
+    Is(u8, u8, u8),
+    Bad(usize),
+}
+
+// A run's nesting limit, or the place of the fault.
+pub enum Limit {
+    Is(usize),
+    Bad(usize),
+}
+
+// The nesting limit and the number of calls, or the refusal's number and place.
+pub enum Scanned {
+    Calls(usize, usize),
+    Refused(u32, usize),
+}
+
+pub(crate) fn wide(x: u8) -> usize
+    ensures { λ r. ⌜ r ≡ x ⌝ }
+{
+    x as usize
+}
+
+// One term from an offset on. A word of the stack is a part.
+pub fn skip_term(s: &[u8], from: usize, stack: &mut [u8]) -> Next
+    ensures { λ r. ⌜ r ≡ next-in (short (now (stack .entry)) (now (s .entry))) (term-at (now (s .entry)) from) ⌝ }
+{
+    if stack.len() < 2 * s.len() + 1 {
+        return Next::Short;
+    }
+    stack[0] = TERM;
+    let mut height: usize = 1;
+    let mut at = from;
+    while 0 < height {
+        if s.len() <= at {
+            return Next::Bad(at);
+        }
+        let top = height - 1;
+        let p = parts_after(stack[top], s[at]);
+        let n = p.n;
+        if 3 < n {
+            return Next::Bad(at);
+        }
+        height = push(stack, top, p);
+        at = at + 1;
+    }
+    Next::Past(at)
+}
+
+// So many terms, one after the other.
+pub(crate) fn skip_terms(s: &[u8], from: usize, count: usize, stack: &mut [u8]) -> Next
+    ensures { λ r. ⌜ r ≡ next-in (short (now (stack .entry)) (now (s .entry))) (terms-at count (now (s .entry)) from) ⌝ }
+{
+    if stack.len() < 2 * s.len() + 1 {
+        return Next::Short;
+    }
+    let mut left = count;
+    let mut at = from;
+    while 0 < left {
+        let next = skip_term(s, at, stack);
+        let Next::Past(p) = next else {
+            return next;
+        };
+        at = p;
+        left = left - 1;
+    }
+    Next::Past(at)
+}
+
+// How many terms follow the context of a call with this code.
+pub fn terms_of(code: u8) -> usize
+    ensures { λ r. ⌜ r ≡ terms-in (getD codes code none) ⌝ }
+{
+    match code {
+        1 | 2 => 1,
+        3 | 4 => 2,
+        5 => 3,
+        _ => 0,
+    }
+}
+
+pub fn read_head(s: &[u8], from: usize) -> Heading
+    ensures { λ r. ⌜ r ≡ head-of (walk-head (drop from (now (s .entry))) from) ⌝ }
+{
+    if s.len() <= from {
+        return Heading::Bad(from);
+    }
+    let code = s[from];
+    if 5 < code {
+        return Heading::Bad(from);
+    }
+    let second = from + 1;
+    if s.len() <= second {
+        return Heading::Bad(second);
+    }
+    let third = second + 1;
+    if s.len() <= third {
+        return Heading::Bad(third);
+    }
+    Heading::Is(code, s[second], s[third])
+}
+
+// One call from an offset on.
+pub fn skip_call(s: &[u8], from: usize, stack: &mut [u8]) -> Next
+    ensures { λ r. ⌜ r ≡ next-in (short (now (stack .entry)) (now (s .entry))) (call-at (now (s .entry)) from) ⌝ }
+{
+    if stack.len() < 2 * s.len() + 1 {
+        return Next::Short;
+    }
+    let head = read_head(s, from);
+    match head {
+        Heading::Bad(p) => Next::Bad(p),
+        Heading::Is(code, _, size) => {
+            let count = wide(size) + terms_of(code);
+            skip_terms(s, from + 3, count, stack)
+        }
+    }
+}
+
+pub fn read_limit(s: &[u8]) -> Limit
+    ensures { λ r. ⌜ r ≡ limit-of (walk-limit (now (s .entry)) 0) ⌝ }
+{
+    if s.len() < 1 {
+        return Limit::Bad(0);
+    }
+    if s.len() < 2 {
+        return Limit::Bad(1);
+    }
+    let limit = wide(s[0]) + 256 * wide(s[1]);
+    if limit < 1 {
+        return Limit::Bad(0);
+    }
+    if 4096 < limit {
+        return Limit::Bad(0);
+    }
+    Limit::Is(limit)
+}
+
+// The calls after the nesting limit. Two bytes of stack for each byte of the longest run, and one more.
+fn count_calls(s: &[u8], limit: usize) -> Scanned
+    requires { ⌜ length (now s) ≤ 65536 ⌝ }
+    ensures { λ r. ⌜ r ≡ counted limit 0 (read-calls (length (now (s .entry))) (length (now (s .entry))) (drop 2 (now (s .entry))) 2) ⌝ }
+{
+    let mut stack = [0u8; 131073];
+    let mut at: usize = 2;
+    let mut calls: usize = 0;
+    while at < s.len() {
+        let next = skip_call(s, at, &mut stack);
+        match next {
+            Next::Past(p) => {
+                at = p;
+            }
+            Next::Bad(p) => {
+                return Scanned::Refused(3, p);
+            }
+            Next::Short => {
+                return Scanned::Refused(2, 0);
+            }
+        }
+        calls = calls + 1;
+    }
+    Scanned::Calls(limit, calls)
+}
+
+// A whole run: refusals 2 and 3, or its limit and the number of its calls.
+pub fn scan_run(s: &[u8]) -> Scanned
+    ensures { λ r. ⌜ r ≡ scanned (now (s .entry)) ⌝ }
+{
+    if 65536 < s.len() {
+        return Scanned::Refused(2, 0);
+    }
+    let limit = read_limit(s);
+    match limit {
+        Limit::Bad(p) => Scanned::Refused(3, p),
+        Limit::Is(n) => count_calls(s, n),
+    }
+}

@@ -1,0 +1,182 @@
+-- Laws of the definitions, by which the functions' proofs go. Assumes nothing.
+use mathlib.Core.Path.{_≡_, refl, sym, ap, _∙_, fun-ext}
+use mathlib.Core.Bool.{Bool, true, false}
+use mathlib.Core.List.{List, [], _∷_, _++_}
+use Prim.Native.Nat.{ℕ, zero, suc, _+_, _-_, _/_, _<_, _≤_}
+use native.Mathlib.Nat.{sub-zero}
+use native.Mathlib.Numerals.{sub-one}
+use native.Mathlib.Decide.{decLt}
+use native.Mathlib.Omega.{arith}
+use borrow.Author.Tests.{lt-ltb, le-ltb, eq-eqb, ne-eqb}
+use lib.Dec.{ltb, eqb}
+use lib.ListN.{length, getD}
+use Rattle.text.specs.Text.{Text, each, digit, digits, decimal, row-word, argument, part-as, node-as, node, lower, quote-within, quote, reference, some-refs}
+use Rattle.text.specs.Listing.{call-line, row-line, totals, refused-listing, read-listing}
+use Rattle.text.specs.declared.RunAnswer.{RunAnswer}
+use Rattle.rules.specs.Names.{bytes, node-name}
+use Rattle.rules.specs.Kinds.{part-of}
+use Rattle.text.specs.Window.{Page, page, put, wrote}
+use Rattle.text.specs.declared.Pen.{Pen}
+
+-- writing
+
+pub wrote-nil : (w : Page) → wrote [] w ≡ w
+unfolding wrote
+wrote-nil w = refl
+
+pub wrote-cons : (b : ℕ) (t : Text) (w : Page) → wrote (b ∷ t) w ≡ wrote t (put b w)
+unfolding wrote
+wrote-cons b t w = refl
+
+pub wrote-append : (s t : Text) (w : Page) → wrote (s ++ t) w ≡ wrote t (wrote s w)
+unfolding wrote
+wrote-append [] t w = refl
+wrote-append (b ∷ s) t w = wrote-append s t (put b w)
+
+put-full : (b : ℕ) (p : Pen) (buf : List ℕ) → length buf ≤ p .filled → put b (page p buf) ≡ page p buf
+unfolding put
+put-full b p buf h = rw (le-ltb _ _ h, put)
+
+-- In a full buffer nothing changes.
+pub wrote-full : (t : Text) (p : Pen) (buf : List ℕ) → length buf ≤ p .filled → wrote t (page p buf) ≡ page p buf
+unfolding wrote
+wrote-full [] p buf h = refl
+wrote-full (b ∷ t) p buf h = ap (wrote t) (put-full b p buf h) ∙ wrote-full t p buf h
+
+-- loops
+
+-- A turn of a loop that writes the k-th of n texts, and its end.
+each-turn : (f : ℕ → Text) (k n : ℕ) → k < n → each f k (n - k) ≡ f k ++ each f (k + 1) (n - (k + 1))
+unfolding each
+each-turn f k n h = let e : n - k ≡ suc (n - (k + 1)) = omega arith in let g : k + 1 ≡ suc k = omega arith in rw (e, g)
+
+pub wrote-turn : (f : ℕ → Text) (k n : ℕ) (v w : Page) → k < n → v ≡ wrote (f k) w → wrote (each f (k + 1) (n - (k + 1))) v ≡ wrote (each f k (n - k)) w
+wrote-turn f k n v w h e = rw (e, each-turn f k n h, wrote-append)
+
+pub wrote-end : (f : ℕ → Text) (k n : ℕ) (w : Page) → n ≤ k → wrote (each f k (n - k)) w ≡ w
+unfolding each wrote
+wrote-end f k n w h = let e : n - k ≡ 0 = omega arith in rw e
+
+-- A text is that of its bytes.
+abbrev pub byte-of : Text → ℕ → Text
+byte-of l k = getD l k 0 ∷ []
+
+-- A turn that puts the k-th byte of n.
+pub wrote-byte : (l : Text) (k n : ℕ) (v w : Page) → k < n → v ≡ put (getD l k 0) w → wrote (each (byte-of l) (k + 1) (n - (k + 1))) v ≡ wrote (each (byte-of l) k (n - k)) w
+unfolding wrote
+wrote-byte l k n v w h e = wrote-turn (byte-of l) k n v w h e
+
+each-shift : (f : ℕ → Text) (k n : ℕ) → each f (suc k) n ≡ each (λ j. f (suc j)) k n
+unfolding each
+each-shift f k zero = refl
+each-shift f k (suc n) = ap (λ t. f (suc k) ++ t) (each-shift f (suc k) n)
+
+pub each-byte : (l : Text) → each (byte-of l) 0 (length l) ≡ l
+unfolding each
+each-byte [] = refl
+each-byte (b ∷ l) = ap (λ t. b ∷ t) (each-shift (byte-of (b ∷ l)) 0 (length l) ∙ each-byte l)
+
+pub wrote-bytes : (l : Text) (w : Page) → wrote (each (byte-of l) 0 (length l - 0)) w ≡ wrote l w
+wrote-bytes l w = rw (sub-zero, each-byte)
+
+-- numbers
+
+digits-small : (k n : ℕ) → n < 10 → digits (suc k) n ≡ digit n ∷ []
+unfolding digits
+digits-small k n h = rw (lt-ltb _ _ h, digits)
+
+digits-more : (k n : ℕ) → 10 ≤ n → digits (suc k) n ≡ digits k (n / 10) ++ digit n ∷ []
+unfolding digits
+digits-more k n h = rw (le-ltb _ _ h, digits)
+
+digits-enough : (k m n : ℕ) → n < k → n < m → digits k n ≡ digits m n
+digits-enough zero m n h l = absurd (let z : ⊥ = omega arith in z)
+digits-enough (suc k) zero n h l = absurd (let z : ⊥ = omega arith in z)
+digits-enough (suc k) (suc m) n h l = elim (decLt n 10) [
+  | yes s ↦ digits-small k n s ∙ sym (digits-small m n s)
+  | no s ↦ (let g : 10 ≤ n = omega arith in digits-more k n g ∙ ap (λ t. t ++ digit n ∷ []) (digits-enough k m (n / 10) (omega arith) (omega arith)) ∙ sym (digits-more m n g))
+]
+
+pub decimal-small : (n : ℕ) → n < 10 → decimal n ≡ digit n ∷ []
+unfolding decimal
+decimal-small n h = digits-small n n h
+
+pub decimal-more : (n : ℕ) → 10 ≤ n → decimal n ≡ decimal (n / 10) ++ digit n ∷ []
+unfolding decimal
+decimal-more n h = digits-more n n h ∙ ap (λ t. t ++ digit n ∷ []) (digits-enough n (suc (n / 10)) (n / 10) (omega arith) (omega arith))
+
+-- arguments and parts, by their sorts
+
+pub argument-absent : (q : ℕ → Text) (sort x : ℕ) → sort ≡ 0 → argument q sort x ≡ []
+unfolding argument
+argument-absent q sort x h = rw (eq-eqb _ _ h, argument)
+
+pub argument-number : (q : ℕ → Text) (sort x : ℕ) → (sort ≡ 0 → ⊥) → sort ≡ 1 → argument q sort x ≡ bytes " " ++ decimal x
+unfolding argument
+argument-number q sort x h k = rw (ne-eqb _ _ h, argument, eq-eqb _ _ k, argument)
+
+pub argument-quote : (q : ℕ → Text) (sort x : ℕ) → (sort ≡ 0 → ⊥) → (sort ≡ 1 → ⊥) → argument q sort x ≡ bytes " " ++ q x
+unfolding argument
+argument-quote q sort x h k = rw (ne-eqb _ _ h, argument, ne-eqb _ _ k, argument)
+
+-- nodes, by whether they have parts
+
+pub node-atom : (q : ℕ → Text) (C : List ℕ) (i kind : ℕ) → part-of kind 0 .sort ≡ 0 → node-as q C i kind ≡ node-name kind
+unfolding node-as
+node-atom q C i kind h = rw (eq-eqb _ _ h, node-as)
+
+pub node-parts : (q : ℕ → Text) (C : List ℕ) (i kind : ℕ) → (part-of kind 0 .sort ≡ 0 → ⊥) → node-as q C i kind ≡ bytes "(" ++ node-name kind ++ part-as q C i kind 0 ++ part-as q C i kind 1 ++ part-as q C i kind 2 ++ bytes ")"
+unfolding node-as
+node-parts q C i kind h = rw (ne-eqb _ _ h, node-as)
+
+-- quotes
+
+pub lower-yes : (i j : ℕ) (f : ℕ → Text) → j < i → lower i f j ≡ f j
+unfolding lower
+lower-yes i j f h = rw (lt-ltb _ _ h, lower)
+
+pub lower-no : (i j : ℕ) (f : ℕ → Text) → i ≤ j → lower i f j ≡ []
+unfolding lower
+lower-no i j f h = rw (le-ltb _ _ h, lower)
+
+lower-same : (i : ℕ) (f g : ℕ → Text) → ((j : ℕ) → j < i → f j ≡ g j) → (j : ℕ) → lower i f j ≡ lower i g j
+lower-same i f g e j = elim (decLt j i) [
+  | yes h ↦ lower-yes i j f h ∙ e j h ∙ sym (lower-yes i j g h)
+  | no h ↦ (let l : i ≤ j = omega arith in lower-no i j f l ∙ sym (lower-no i j g l))
+]
+
+quote-enough : (C : List ℕ) (k m i : ℕ) → i < k → i < m → quote-within k C i ≡ quote-within m C i
+unfolding quote-within
+quote-enough C zero m i h l = absurd (let z : ⊥ = omega arith in z)
+quote-enough C (suc k) zero i h l = absurd (let z : ⊥ = omega arith in z)
+quote-enough C (suc k) (suc m) i h l =
+    ap (λ f. node f C i) (fun-ext (lower-same i (quote-within k C) (quote-within m C) (λ j g. quote-enough C k m j (omega arith) (omega arith))))
+
+-- A cell's quote by those of its parts.
+pub quote-node : (C : List ℕ) (i : ℕ) → quote C i ≡ node (lower i (quote C)) C i
+unfolding quote-within quote
+quote-node C i = ap (λ f. node f C i) (fun-ext (lower-same i (quote-within i C) (quote C) (λ j g. quote-enough C i (suc j) j g (omega arith))))
+
+-- cited rows
+
+pub refs-none : (R : List ℕ) (i n : ℕ) → n ≡ 0 → some-refs R i n ≡ bytes "-"
+unfolding some-refs
+refs-none R i n h = rw h
+
+pub refs-some : (R : List ℕ) (i n : ℕ) → (n ≡ 0 → ⊥) → some-refs R i n ≡ decimal (row-word R i 2) ++ each (reference R i) 1 (n - 1)
+unfolding some-refs
+refs-some R i zero h = absurd (h refl)
+refs-some R i (suc n) h = rw sub-one
+
+-- listings, by their parts: a heading is kept whole
+
+pub wrote-refused : (run : RunAnswer) (w : Page) → wrote (refused-listing run) w ≡ wrote (bytes "\n") (wrote (decimal (run .place)) (wrote (bytes " ") (wrote (decimal (run .number)) (wrote (bytes "number place\n") w))))
+unfolding refused-listing
+wrote-refused run w = simp wrote-append
+
+pub wrote-read :
+    (run : RunAnswer) (codes A R C : List ℕ) (w : Page)
+    → wrote (read-listing run codes A R C) w
+    ≡ wrote (totals run codes A) (wrote (bytes "rows cells repeats\n") (wrote (each (row-line R C) 0 (run .rows)) (wrote (bytes "row rule refs judgment\n") (wrote (each (call-line codes A C) 0 (run .calls)) (wrote (bytes "call code row result deepest\n") w)))))
+unfolding read-listing
+wrote-read run codes A R C w = simp wrote-append
