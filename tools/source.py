@@ -15,11 +15,11 @@ def functions(crate):
     out = {}
     for path in sorted(glob.glob('crates/%s/src/*.rt' % crate)):
         text = open(path).read()
-        starts = [m.start() for m in re.finditer(r'^ *(?:pub )?fn \w+\(', text, re.M)] + [len(text)]
+        starts = [m.start() for m in re.finditer(r'^ *(?:pub )?(?:extern "C" )?fn \w+\(', text, re.M)] + [len(text)]
         impls = [(m.start(), m.group(1)) for m in re.finditer(r'^impl (\w+) \{', text, re.M)]
         for a, b in zip(starts, starts[1:]):
             part = text[a:b]
-            name = re.match(r' *(?:pub )?fn (\w+)\(', part).group(1)
+            name = re.match(r' *(?:pub )?(?:extern "C" )?fn (\w+)\(', part).group(1)
             ens = re.search(r'ensures \{(.*?)⌝ \}', part, re.S)
             f = {'contract': ens.group(1) if ens else '', 'parameters': part[:part.index(')')], 'body': part[ens.end():] if ens else part}
             f['lends'] = '&mut [' in f['parameters']

@@ -5,6 +5,7 @@ UNFOLD = {
     'call': 'called-in',
     'step': 'turned-by',
     'run': 'run-by read-run',
+    'run-derivations': 'with-result',
     'emit': 'known-row known-or new-row add-row',
     'intern': 'known-or new-cell add-cell',
     'remember': 'remembered-or new-memory add-cell replace',
@@ -43,6 +44,7 @@ def search_up(test, predicate):
 
 HAND = {
     'byte': {'use': ['use lib.ListN.{List·getD-eq-default}'], 'over': {'returns-2': 'sym (List·getD-eq-default (c .before .before .args .bytes .now) 0 (c .if1 .left))'}},
+    'run-derivations': {'first': ['put-five _ _ _ _ _ _']},
     'put-answer': {'first': ['put-four _ _ _ _ _ _']},
     'put': {'use': ['use lib.Seq.{set-out}'], 'over': {'returns-2': 'sym (set-out _ _ _ (c .if1 .left))'}},
     'word': {'use': ['use lib.ListN.{List·getD-eq-default}'], 'over': {'returns-2': 'sym (List·getD-eq-default (c .before .args .words .now) 0 (c .if1 .left))'}},
