@@ -1,6 +1,5 @@
 // The library for C and Rust: one function.
-ghost use mathlib.Core.Path.{_≡_};
-ghost use Rattle.exports.specs.Exports.{exported, export-of};
+ghost use Rattle.exports.specs.Exports.{Exports};
 use ast::words::put;
 use run::entry::run as play;
 
@@ -14,7 +13,7 @@ pub extern "C" fn run_derivations(
     answers: &mut [u32],
     result: &mut [u32],
 )
-    ensures { λ _. ⌜ exported (now (rows .exit)) (now (cells .exit)) (now (answers .exit)) (now (result .exit)) ≡ export-of (now (run .entry)) (now (rows .entry)) (now (cells .entry)) (now (answers .entry)) (now (result .entry)) ⌝ }
+    ensures { λ _. ⌜ Exports (now (run .entry)) (now (rows .entry)) (now (cells .entry)) (now (answers .entry)) (now (result .entry)) (now (rows .exit)) (now (cells .exit)) (now (answers .exit)) (now (result .exit)) ⌝ }
 {
     if result.len() < 5 {
         return;

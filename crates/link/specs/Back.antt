@@ -4,6 +4,7 @@ use mathlib.Core.Path.{_≡_, refl, ap, _∙_}
 use mathlib.Core.List.{List, [], _∷_, _++_}
 use mathlib.Core.Option.{Option, none, some}
 use mathlib.Core.Bool.{Bool, true, false}
+use native.Mathlib.Decide.{decLt}
 use native.Mathlib.Omega.{arith}
 use native.Mathlib.Nat.{add-zero}
 use lib.ListN.{length, getD, drop, take}
@@ -12,15 +13,15 @@ use Rattle.producer.specs.Machine.{Machine}
 use Rattle.walk.specs.Syntax.{Interval, Term, Context, Quote, Quotes, quote, quotes}
 use Rattle.walk.specs.Judgment.{Judgment}
 use Rattle.walk.specs.Reader.{kinds, ikinds}
-use Rattle.walk.specs.State.{State, Row, Thing, term, interval, context, inference}
+use Rattle.walk.specs.State.{State, Row, Thing, term, interval, context, inference, Key, key}
 use Rattle.walk.specs.Demand.{Row-at, newest, older, Cites, none-cited, _also_, Row-follows, Derivation-order}
 use Rattle.link.specs.Lists.{Nth, here, there, nth-below, nth-lift, Extends, same, more, extends-trans, first-passes, read}
 use Rattle.link.specs.Things.{Shown, shown?, show, shows, yes-true, Cell, Low, cell-nth, Plain}
-use Rattle.link.specs.Tables.{Shape, s-universe, s-var, s-nat, s-zero, s-pi, s-lam, s-app, s-path, s-plam, s-papp, s-i0, s-i1, s-dim, s-neg, s-meet, s-join, s-nil, s-cons, Spoken, j-ctx, j-dshiftctx, j-lookup, j-lt, j-le, j-max, j-interval, j-ishift, j-isubst, j-shift, j-subst, j-dshift, j-dsubst, j-has, j-eq}
+use Rattle.link.specs.Tables.{Shape, s-plain, s-universe, s-var, s-nat, s-zero, s-pi, s-lam, s-app, s-path, s-plam, s-papp, s-i0, s-i1, s-dim, s-neg, s-meet, s-join, s-nil, s-cons, Spoken, j-ctx, j-dshiftctx, j-lookup, j-lt, j-le, j-max, j-interval, j-ishift, j-isubst, j-shift, j-subst, j-dshift, j-dsubst, j-has, j-eq}
 use Rattle.link.specs.Store.{Block, plain, remembered, Line, line, Cells}
 use Rattle.link.specs.Holds.{Before, Holds}
 use Rattle.link.specs.Concludes.{reads, concludes, few-premises}
-use Rattle.link.specs.Table.{_>>=_, interval-by, quote-by, ckinds, context-by, interval-at, quote-at, context-at, below, an-interval, a-quote, a-context, read-ctx, read-dshiftctx, read-lookup, read-lt, read-le, read-max, read-interval, read-ishift, read-isubst, read-shift, read-subst, read-dshift, read-dsubst, read-has, read-eq, cited-at, row-at, table-at, number, Stands-for, arguments, Row-words}
+use Rattle.link.specs.Table.{_>>=_, lower, interval-by, quote-by, ckinds, context-by, interval-at, quote-at, context-at, below, an-interval, a-quote, a-context, read-ctx, read-dshiftctx, read-lookup, read-lt, read-le, read-max, read-interval, read-ishift, read-isubst, read-shift, read-subst, read-dshift, read-dsubst, read-has, read-eq, cited-at, row-at, table-at, number, Stands-for, arguments, Row-words, term-by, scope-by, term-at, scope-at, Memory-cell, Holds-thing, Among, this-thing, other-thing, Cell-of, Thing-of}
 
 -- the lowest cell that shows something
 record Lowest (n : ℕ) (s : Shown) (xs : List Thing) : Type 0 where
@@ -31,6 +32,14 @@ record Lowest (n : ℕ) (s : Shown) (xs : List Thing) : Type 0 where
 lowest : {n : ℕ} {s : Shown} {xs : List Thing} → Low n s xs → Lowest n s xs
 unfolding shows
 lowest {n} {s} {xs} low = let p = first-passes (shows s) xs n (low .found) in record { one = p .one; nth = p .nth; shows = yes-true (shown? s (show (p .one))) (p .passes) }
+
+-- a cell with a lower number
+lowered : {A : Type 0} (at : ℕ → Option A) {n m : ℕ} {o : Option A} → m < n → at m ≡ o → lower n at m ≡ o
+lowered {A} at {n} {m} {o} l e = go (ltb m n) (lt→ltb m n l)
+  where
+    go : (b : Bool) → T b → elim b as (λ _. Option A) [ true ↦ at m | false ↦ none ] ≡ o
+    go true t = e
+    go false t = absurd t
 
 -- a cell, over those below it
 record Inner (n : ℕ) (x : Thing) (xs : List Thing) (all : List ℕ) : Type 0 where
@@ -62,9 +71,9 @@ module _ {xs : List Thing} {ws : List ℕ} (rest : List ℕ) (cs : Cells xs ws) 
   interval-back : (f n : ℕ) (r : Interval) → n < f → Nth n (interval r) xs → interval-at f (ws ++ rest) n ≡ some r
   unfolding interval-at interval-by _>>=_
   interval-back ℕ.zero n r l h = absurd (omega arith)
-  interval-back (ℕ.suc f) n r l h = let i = inner {x = interval r} tt h in rw (i .word-0, i .word-1, i .word-2) (go (interval-back f) (part-at i) (i .shape))
+  interval-back (ℕ.suc f) n r l h = let i = inner {x = interval r} tt h in rw (i .word-0, i .word-1, i .word-2) (go (λ m _ k h. lowered (interval-at f (ws ++ rest)) k (interval-back f m _ (omega arith) h)) (part-at i) (i .shape))
     where
-      go : {ys : List Thing} {k a b c : ℕ} {r : Interval} → ((m : ℕ) (q : Interval) → m < f → Nth m (interval q) xs → interval-at f (ws ++ rest) m ≡ some q) → ((m : ℕ) (y : Thing) → Cell m y ys → (m < n) × Nth m y xs) → Shape ys k a b c (interval r) → (getD ikinds k none >>= λ k. interval-by (λ i. interval-at f (ws ++ rest) i) k a b) ≡ some r
+      go : {ys : List Thing} {k a b c : ℕ} {r : Interval} → ((m : ℕ) (q : Interval) → m < n → Nth m (interval q) xs → lower n (interval-at f (ws ++ rest)) m ≡ some q) → ((m : ℕ) (y : Thing) → Cell m y ys → (m < n) × Nth m y xs) → Shape ys k a b c (interval r) → (getD ikinds k none >>= λ k. interval-by (lower n (interval-at f (ws ++ rest))) k a b) ≡ some r
       go ih at s-i0 = refl
       go ih at s-i1 = refl
       go ih at s-dim = refl
@@ -75,9 +84,9 @@ module _ {xs : List Thing} {ws : List ℕ} (rest : List ℕ) (cs : Cells xs ws) 
   quote-back : (f n : ℕ) (t : Term) → n < f → Nth n (term t) xs → quote-at f (ws ++ rest) n ≡ some (quote t)
   unfolding quote-at quote-by _>>=_
   quote-back ℕ.zero n t l h = absurd (omega arith)
-  quote-back (ℕ.suc f) n t l h = let i = inner {x = term t} tt h in rw (i .word-0, i .word-1, i .word-2, i .word-3) (go (quote-back f) (part-at i) (i .shape))
+  quote-back (ℕ.suc f) n t l h = let i = inner {x = term t} tt h in rw (i .word-0, i .word-1, i .word-2, i .word-3) (go (λ m _ k h. lowered (quote-at f (ws ++ rest)) k (quote-back f m _ (omega arith) h)) (part-at i) (i .shape))
     where
-      go : {ys : List Thing} {k a b c : ℕ} {t : Term} → ((m : ℕ) (s : Term) → m < f → Nth m (term s) xs → quote-at f (ws ++ rest) m ≡ some (quote s)) → ((m : ℕ) (y : Thing) → Cell m y ys → (m < n) × Nth m y xs) → Shape ys k a b c (term t) → (getD kinds k none >>= λ k. quote-by (λ i. quote-at f (ws ++ rest) i) (λ i. interval-at f (ws ++ rest) i) k a b c) ≡ some (quote t)
+      go : {ys : List Thing} {k a b c : ℕ} {t : Term} → ((m : ℕ) (s : Term) → m < n → Nth m (term s) xs → lower n (quote-at f (ws ++ rest)) m ≡ some (quote s)) → ((m : ℕ) (y : Thing) → Cell m y ys → (m < n) × Nth m y xs) → Shape ys k a b c (term t) → (getD kinds k none >>= λ k. quote-by (lower n (quote-at f (ws ++ rest))) (lower n (interval-at f (ws ++ rest))) k a b c) ≡ some (quote t)
       go ih at s-universe = refl
       go ih at s-var = refl
       go ih at s-nat = refl
@@ -87,25 +96,67 @@ module _ {xs : List Thing} {ws : List ℕ} (rest : List ℕ) (cs : Cells xs ws) 
       go ih at (s-app x y) = let p = at _ _ x in let q = at _ _ y in rw (ih _ _ (omega arith) (p .1), ih _ _ (omega arith) (q .1))
       go ih at (s-path x y z) = let p = at _ _ x in let q = at _ _ y in let r = at _ _ z in rw (ih _ _ (omega arith) (p .1), ih _ _ (omega arith) (q .1), ih _ _ (omega arith) (r .1))
       go ih at (s-plam x y) = let q = at _ _ y in rw (ih _ _ (omega arith) (q .1))
-      go ih at (s-papp x y) = let p = at _ _ x in let q = at _ _ y in rw (ih _ _ (omega arith) (p .1), interval-back f _ _ (omega arith) (q .1))
+      go ih at (s-papp x y) = let p = at _ _ x in let q = at _ _ y in rw (ih _ _ (omega arith) (p .1), lowered (interval-at f (ws ++ rest)) (q .0) (interval-back f _ _ (omega arith) (q .1)))
 
   context-back : (f n : ℕ) (g : Context) → n < f → Nth n (context g) xs → context-at f (ws ++ rest) n ≡ some (quotes g)
   unfolding context-at context-by _>>=_
   context-back ℕ.zero n g l h = absurd (omega arith)
-  context-back (ℕ.suc f) n g l h = let i = inner {x = context g} tt h in rw (i .word-0, i .word-1, i .word-2) (go (context-back f) (part-at i) (i .shape))
+  context-back (ℕ.suc f) n g l h = let i = inner {x = context g} tt h in rw (i .word-0, i .word-1, i .word-2) (go (λ m _ k h. lowered (context-at f (ws ++ rest)) k (context-back f m _ (omega arith) h)) (part-at i) (i .shape))
     where
-      go : {ys : List Thing} {k a b c : ℕ} {g : Context} → ((m : ℕ) (h : Context) → m < f → Nth m (context h) xs → context-at f (ws ++ rest) m ≡ some (quotes h)) → ((m : ℕ) (y : Thing) → Cell m y ys → (m < n) × Nth m y xs) → Shape ys k a b c (context g) → (getD ckinds k none >>= λ k. context-by (λ i. context-at f (ws ++ rest) i) (λ i. quote-at f (ws ++ rest) i) k a b) ≡ some (quotes g)
+      go : {ys : List Thing} {k a b c : ℕ} {g : Context} → ((m : ℕ) (h : Context) → m < n → Nth m (context h) xs → lower n (context-at f (ws ++ rest)) m ≡ some (quotes h)) → ((m : ℕ) (y : Thing) → Cell m y ys → (m < n) × Nth m y xs) → Shape ys k a b c (context g) → (getD ckinds k none >>= λ k. context-by (lower n (context-at f (ws ++ rest))) (lower n (quote-at f (ws ++ rest))) k a b) ≡ some (quotes g)
       go ih at s-nil = refl
-      go ih at (s-cons x y) = let p = at _ _ x in let q = at _ _ y in rw (quote-back f _ _ (omega arith) (p .1), ih _ _ (omega arith) (q .1))
+      go ih at (s-cons x y) = let p = at _ _ x in let q = at _ _ y in rw (lowered (quote-at f (ws ++ rest)) (p .0) (quote-back f _ _ (omega arith) (p .1)), ih _ _ (omega arith) (q .1))
+
+  -- with annotations
+
+  term-back : (f n : ℕ) (t : Term) → n < f → Nth n (term t) xs → term-at f (ws ++ rest) n ≡ some t
+  unfolding term-at term-by _>>=_
+  term-back ℕ.zero n t l h = absurd (omega arith)
+  term-back (ℕ.suc f) n t l h = let i = inner {x = term t} tt h in rw (i .word-0, i .word-1, i .word-2, i .word-3) (go (λ m _ k h. lowered (term-at f (ws ++ rest)) k (term-back f m _ (omega arith) h)) (part-at i) (i .shape))
+    where
+      go : {ys : List Thing} {k a b c : ℕ} {t : Term} → ((m : ℕ) (s : Term) → m < n → Nth m (term s) xs → lower n (term-at f (ws ++ rest)) m ≡ some s) → ((m : ℕ) (y : Thing) → Cell m y ys → (m < n) × Nth m y xs) → Shape ys k a b c (term t) → (getD kinds k none >>= λ k. term-by (lower n (term-at f (ws ++ rest))) (lower n (interval-at f (ws ++ rest))) k a b c) ≡ some t
+      go ih at s-universe = refl
+      go ih at s-var = refl
+      go ih at s-nat = refl
+      go ih at s-zero = refl
+      go ih at (s-pi x y) = let p = at _ _ x in let q = at _ _ y in rw (ih _ _ (omega arith) (p .1), ih _ _ (omega arith) (q .1))
+      go ih at (s-lam x y) = let p = at _ _ x in let q = at _ _ y in rw (ih _ _ (omega arith) (p .1), ih _ _ (omega arith) (q .1))
+      go ih at (s-app x y) = let p = at _ _ x in let q = at _ _ y in rw (ih _ _ (omega arith) (p .1), ih _ _ (omega arith) (q .1))
+      go ih at (s-path x y z) = let p = at _ _ x in let q = at _ _ y in let r = at _ _ z in rw (ih _ _ (omega arith) (p .1), ih _ _ (omega arith) (q .1), ih _ _ (omega arith) (r .1))
+      go ih at (s-plam x y) = let p = at _ _ x in let q = at _ _ y in rw (ih _ _ (omega arith) (p .1), ih _ _ (omega arith) (q .1))
+      go ih at (s-papp x y) = let p = at _ _ x in let q = at _ _ y in rw (ih _ _ (omega arith) (p .1), lowered (interval-at f (ws ++ rest)) (q .0) (interval-back f _ _ (omega arith) (q .1)))
+
+  scope-back : (f n : ℕ) (g : Context) → n < f → Nth n (context g) xs → scope-at f (ws ++ rest) n ≡ some g
+  unfolding scope-at scope-by _>>=_
+  scope-back ℕ.zero n g l h = absurd (omega arith)
+  scope-back (ℕ.suc f) n g l h = let i = inner {x = context g} tt h in rw (i .word-0, i .word-1, i .word-2) (go (λ m _ k h. lowered (scope-at f (ws ++ rest)) k (scope-back f m _ (omega arith) h)) (part-at i) (i .shape))
+    where
+      go : {ys : List Thing} {k a b c : ℕ} {g : Context} → ((m : ℕ) (h : Context) → m < n → Nth m (context h) xs → lower n (scope-at f (ws ++ rest)) m ≡ some h) → ((m : ℕ) (y : Thing) → Cell m y ys → (m < n) × Nth m y xs) → Shape ys k a b c (context g) → (getD ckinds k none >>= λ k. scope-by (lower n (scope-at f (ws ++ rest))) (lower n (term-at f (ws ++ rest))) k a b) ≡ some g
+      go ih at s-nil = refl
+      go ih at (s-cons x y) = let p = at _ _ x in let q = at _ _ y in rw (lowered (term-at f (ws ++ rest)) (p .0) (term-back f _ _ (omega arith) (p .1)), ih _ _ (omega arith) (q .1))
+
+  -- any cell
+  memory-back : {n d : ℕ} {g : Context} {t : Term} → Nth n (inference (key d g t)) xs → Memory-cell (length xs) (ws ++ rest) n d g t
+  memory-back {n} {d} {g} {t} h = let r = read rest h cs in go (r .is) (r .at) (r .under)
+    where
+      go : {ys : List Thing} {bs : List ℕ} → Block ys (inference (key d g t)) bs → ((k : ℕ) → k < 8 → getD (ws ++ rest) (n * 8 + k) 0 ≡ getD bs k 0) → Extends (inference (key d g t) ∷ ys) xs → Memory-cell (length xs) (ws ++ rest) n d g t
+      go (plain s w) f e = absurd (s-plain s .1)
+      go (remembered a b) f e =
+          let u = extends-trans (more same) e in
+          let x = nth-lift u (cell-nth a) in
+          let y = nth-lift u (cell-nth b) in
+          record { kind = rw add-zero at (f 0 (lit< tt)); dims = f 1 (lit< tt); scope = rw (f 2 (lit< tt)) (scope-back (length xs) _ g (nth-below x) x); of = rw (f 3 (lit< tt)) (term-back (length xs) _ t (nth-below y) y) }
+
+  thing-back : (n : ℕ) (x : Thing) → Nth n x xs → Holds-thing (length xs) (ws ++ rest) n x
+  thing-back n (term t) h = term-back (length xs) n t (nth-below h) h
+  thing-back n (interval r) h = interval-back (length xs) n r (nth-below h) h
+  thing-back n (context g) h = scope-back (length xs) n g (nth-below h) h
+  thing-back n (inference (key d g t)) h = memory-back h
 
   -- arguments: the lowest cell with a quote
 
   in-use : {A : Type 0} {n : ℕ} {x : Thing} (at : ℕ → List ℕ → ℕ → Option A) → Nth n x xs → below at (length xs) (ws ++ rest) n ≡ at (length xs) (ws ++ rest) n
-  in-use {A} {n} at h = go (ltb n (length xs)) (lt→ltb n (length xs) (nth-below h))
-    where
-      go : (b : Bool) → T b → elim b as (λ _. Option A) [ true ↦ at (length xs) (ws ++ rest) n | false ↦ none ] ≡ at (length xs) (ws ++ rest) n
-      go true t = refl
-      go false t = absurd t
+  in-use at h = lowered (at (length xs) (ws ++ rest)) (nth-below h) refl
 
   pub interval-read : {n : ℕ} {r : Interval} → Low n (Shown.an-interval r) xs → an-interval (length xs) (ws ++ rest) n ≡ some r
   interval-read {n} {r} low = let p = lowest low in go (p .one) (p .nth) (p .shows)
@@ -273,3 +324,31 @@ answer-back {o} {w} {s} {n} {t} h c =
     let rest = drop (length (s .cells) * 8) (o .cells) in
     let k = cell-nth c in
     rw (h .counts, h .words .cells-end) (in-use rest (h .words .cells-are) quote-at k ∙ quote-back rest (h .words .cells-are) (length (s .cells)) n t (nth-below k) k)
+
+-- the cells
+among-nth : {x : Thing} {xs : List Thing} → Among x xs → (n : ℕ) × Nth n x xs
+among-nth this-thing = (_, here refl)
+among-nth (other-thing a) = let (n, h) = among-nth a in (n, there h)
+
+record Numbered (xs : List Thing) (n : ℕ) : Type 0 where
+  one : Thing
+  nth : Nth n one xs
+  among : Among one xs
+
+numbered : (xs : List Thing) (n : ℕ) → n < length xs → Numbered xs n
+numbered [] n l = absurd (omega arith)
+numbered (x ∷ xs) n l = go (decLt n (length xs)) (numbered xs n)
+  where
+    go : Dec (n < length xs) → (n < length xs → Numbered xs n) → Numbered (x ∷ xs) n
+    go (yes k) ih = let r = ih k in record { one = r .one; nth = there (r .nth); among = other-thing (r .among) }
+    go (no k) ih = record { one = x; nth = let e : n ≡ length xs = omega arith in here e; among = this-thing }
+
+pub cell-of-thing : {o : Before} {w : Machine} {s : State} {x : Thing} → Holds o w s → Among x (s .cells) → Cell-of (w .state .cells) (w .cells) x
+cell-of-thing {o} {w} {s} {x} h a =
+    let (n, k) = among-nth a in
+    rw (h .counts, h .words .cells-end) (record { at = n; used = nth-below k; holds = thing-back (drop (length (s .cells) * 8) (o .cells)) (h .words .cells-are) n x k })
+
+pub thing-of-cell : {o : Before} {w : Machine} {s : State} (i : ℕ) → Holds o w s → i < w .state .cells → Thing-of (w .state .cells) (w .cells) (s .cells) i
+thing-of-cell {o} {w} {s} i h l =
+    let r = numbered (s .cells) i (rw (h .counts) at l) in
+    rw (h .counts, h .words .cells-end) (record { thing = r .one; among = r .among; holds = thing-back (drop (length (s .cells) * 8) (o .cells)) (h .words .cells-are) i (r .one) (r .nth) })

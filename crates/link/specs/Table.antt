@@ -1,5 +1,5 @@
 -- The table, read back from the words: each row's rule, the rows that it cites, and its judgment, by quote through the cells;
--- none where the words hold no such thing. And what the words of a row and of an answer are. Assumes nothing.
+-- none where the words hold no such thing. And what the words of a row, of an answer and of a cell are. Assumes nothing.
 use Prim.Native.Nat.{ℕ, suc, _+_, _*_, _<_}
 use mathlib.Core.Path.{_≡_}
 use mathlib.Core.List.{List, [], _∷_, _++_}
@@ -7,10 +7,11 @@ use mathlib.Core.Option.{Option, none, some}
 use mathlib.Core.Bool.{true, false}
 use lib.ListN.{length, getD, take, replicate}
 use lib.Dec.{ltb}
-use Rattle.walk.specs.Syntax.{Interval, I0, I1, Dim, Neg, Meet, Join, Quote, u, v, nat, zero, pi, lam, app, path, plam, papp, Quotes, nil, cons, quote}
+use Rattle.walk.specs.Syntax.{Interval, I0, I1, Dim, Neg, Meet, Join, Term, Universe, Var, Nat, Zero, Pi, Lam, App, Path, PathLam, PathApp, Context, Nil, Cons, Quote, u, v, nat, zero, pi, lam, app, path, plam, papp, Quotes, nil, cons, quote}
 use Rattle.walk.specs.Judgment.{Judgment, ctx, dshiftctx, lookup, lt, le, max, interval, ishift, isubst, shift, subst, dshift, dsubst, has, eq}
 use Rattle.walk.specs.Reader.{Kind, k-u, k-v, k-nat, k-zero, k-pi, k-lam, k-app, k-path, k-plam, k-papp, IKind, k-0, k-1, k-dim, k-neg, k-meet, k-join, kinds, ikinds}
-use Rattle.walk.specs.State.{Row}
+use Rattle.walk.specs.State.{Row, Thing, term, inference, key}
+use Rattle.walk.specs.State as S
 use Rattle.walk.specs.Run.{Result, no-result, a-level, a-term, Answer}
 
 infixl 20 _>>=_
@@ -59,23 +60,27 @@ unfoldable pub context-by : (ℕ → Option Quotes) → (ℕ → Option Quote) �
 context-by at qat k-nil a b = some nil
 context-by at qat k-cons a b = qat a >>= λ x. at b >>= λ g. some (cons x g)
 
--- The first argument bounds the depth: a part has a lower number, so as many as there are cells are enough.
+-- A part has a lower number than the whole.
+abbrev pub lower : {A : Type 0} → ℕ → (ℕ → Option A) → ℕ → Option A
+lower n at i = elim (ltb i n) [ true ↦ at i | false ↦ none ]
+
+-- The first argument bounds the depth, so that the definition ends: as many as there are cells are enough.
 unfoldable pub interval-at : ℕ → List ℕ → ℕ → Option Interval
 interval-at ℕ.zero C n = none
-interval-at (ℕ.suc f) C n = getD ikinds (kind-word C n) none >>= λ k. interval-by (λ i. interval-at f C i) k (part 1 C n) (part 2 C n)
+interval-at (ℕ.suc f) C n = getD ikinds (kind-word C n) none >>= λ k. interval-by (lower n (interval-at f C)) k (part 1 C n) (part 2 C n)
 
 unfoldable pub quote-at : ℕ → List ℕ → ℕ → Option Quote
 quote-at ℕ.zero C n = none
-quote-at (ℕ.suc f) C n = getD kinds (kind-word C n) none >>= λ k. quote-by (λ i. quote-at f C i) (λ i. interval-at f C i) k (part 1 C n) (part 2 C n) (part 3 C n)
+quote-at (ℕ.suc f) C n = getD kinds (kind-word C n) none >>= λ k. quote-by (lower n (quote-at f C)) (lower n (interval-at f C)) k (part 1 C n) (part 2 C n) (part 3 C n)
 
 unfoldable pub context-at : ℕ → List ℕ → ℕ → Option Quotes
 context-at ℕ.zero C n = none
-context-at (ℕ.suc f) C n = getD ckinds (kind-word C n) none >>= λ k. context-by (λ i. context-at f C i) (λ i. quote-at f C i) k (part 1 C n) (part 2 C n)
+context-at (ℕ.suc f) C n = getD ckinds (kind-word C n) none >>= λ k. context-by (lower n (context-at f C)) (lower n (quote-at f C)) k (part 1 C n) (part 2 C n)
 
 -- arguments: a cell below the n that are used, by quote
 
 abbrev pub below : {A : Type 0} → (ℕ → List ℕ → ℕ → Option A) → ℕ → List ℕ → ℕ → Option A
-below at n C i = elim (ltb i n) [ true ↦ at n C i | false ↦ none ]
+below at n C i = lower n (at n C) i
 
 abbrev pub an-interval : ℕ → List ℕ → ℕ → Option Interval
 an-interval = below interval-at
@@ -218,3 +223,59 @@ pub record Answer-words (n : ℕ) (C A : List ℕ) (k : ℕ) (a : Answer) : Type
 pub data Answer-at (a : Answer) : ℕ → List Answer → Type 0 where
   this-answer : {answers : List Answer} → Answer-at a 0 (a ∷ answers)
   later-answer : {k : ℕ} {b : Answer} {answers : List Answer} → Answer-at a k answers → Answer-at a (suc k) (b ∷ answers)
+
+-- what stands in the words of a cell
+
+-- Terms and contexts with a lam's and a plam's annotation, as the walk counts them.
+unfoldable pub term-by : (ℕ → Option Term) → (ℕ → Option Interval) → Kind → (a b c : ℕ) → Option Term
+term-by at iat k-u a b c = some (Universe a)
+term-by at iat k-v a b c = some (Var a)
+term-by at iat k-nat a b c = some Nat
+term-by at iat k-zero a b c = some Zero
+term-by at iat k-pi a b c = at a >>= λ x. at b >>= λ y. some (Pi x y)
+term-by at iat k-lam a b c = at a >>= λ x. at b >>= λ y. some (Lam x y)
+term-by at iat k-app a b c = at a >>= λ x. at b >>= λ y. some (App x y)
+term-by at iat k-path a b c = at a >>= λ x. at b >>= λ y. at c >>= λ z. some (Path x y z)
+term-by at iat k-plam a b c = at a >>= λ x. at b >>= λ y. some (PathLam x y)
+term-by at iat k-papp a b c = at a >>= λ x. iat b >>= λ r. some (PathApp x r)
+
+unfoldable pub scope-by : (ℕ → Option Context) → (ℕ → Option Term) → CKind → (a b : ℕ) → Option Context
+scope-by at tat k-nil a b = some Nil
+scope-by at tat k-cons a b = tat a >>= λ x. at b >>= λ g. some (Cons x g)
+
+unfoldable pub term-at : ℕ → List ℕ → ℕ → Option Term
+term-at ℕ.zero C n = none
+term-at (ℕ.suc f) C n = getD kinds (kind-word C n) none >>= λ k. term-by (lower n (term-at f C)) (lower n (interval-at f C)) k (part 1 C n) (part 2 C n) (part 3 C n)
+
+unfoldable pub scope-at : ℕ → List ℕ → ℕ → Option Context
+scope-at ℕ.zero C n = none
+scope-at (ℕ.suc f) C n = getD ckinds (kind-word C n) none >>= λ k. scope-by (lower n (scope-at f C)) (lower n (term-at f C)) k (part 1 C n) (part 2 C n)
+
+-- A remembered inference is 40 with its dimensions, its context and its term.
+pub record Memory-cell (n : ℕ) (C : List ℕ) (i d : ℕ) (g : Context) (t : Term) : Type 0 where
+  pub kind : kind-word C i ≡ 40
+  pub dims : part 1 C i ≡ d
+  pub scope : scope-at n C (part 2 C i) ≡ some g
+  pub of : term-at n C (part 3 C i) ≡ some t
+
+-- cell i of n holds what the walk counted
+abbrev pub Holds-thing : ℕ → List ℕ → ℕ → Thing → Type 0
+Holds-thing n C i (term t) = term-at n C i ≡ some t
+Holds-thing n C i (S.interval r) = interval-at n C i ≡ some r
+Holds-thing n C i (S.context g) = scope-at n C i ≡ some g
+Holds-thing n C i (inference (key d g t)) = Memory-cell n C i d g t
+
+pub data Among (x : Thing) : List Thing → Type 0 where
+  this-thing : {xs : List Thing} → Among x (x ∷ xs)
+  other-thing : {y : Thing} {xs : List Thing} → Among x xs → Among x (y ∷ xs)
+
+-- Which cell has which number is open: a thing has a cell in use, and a cell in use a thing.
+pub record Cell-of (n : ℕ) (C : List ℕ) (x : Thing) : Type 0 where
+  pub at : ℕ
+  pub used : at < n
+  pub holds : Holds-thing n C at x
+
+pub record Thing-of (n : ℕ) (C : List ℕ) (xs : List Thing) (i : ℕ) : Type 0 where
+  pub thing : Thing
+  pub among : Among thing xs
+  pub holds : Holds-thing n C i thing

@@ -1,6 +1,6 @@
 -- A run over words, from bytes: what it answers and leaves is what the definition of the run says, and demand 3 holds of its
 -- table: `words`.
-use Prim.Native.Nat.{ℕ, suc, _+_, _*_, _≤_}
+use Prim.Native.Nat.{ℕ, suc, _+_, _*_, _≤_, _<_}
 use mathlib.Core.Path.{_≡_, refl, ap}
 use mathlib.Core.List.{List, [], _∷_, _++_}
 use mathlib.Core.Option.{some}
@@ -25,8 +25,8 @@ use Rattle.order.specs.Theorem.{start-good, demand-3}
 use Rattle.link.specs.Lists.{blocks-length, stays}
 use Rattle.link.specs.Holds.{Before, Holds}
 use Rattle.link.specs.Asked.{Said, ask-sized, ask-all, start, four-words, written-over}
-use Rattle.link.specs.Table.{table-at, Row-words, Result-word, Answer-words, Answer-at, this-answer, later-answer}
-use Rattle.link.specs.Back.{table-back, row-words, answer-back}
+use Rattle.link.specs.Table.{table-at, Row-words, Result-word, Answer-words, Answer-at, this-answer, later-answer, Among, this-thing, other-thing, Cell-of, Thing-of}
+use Rattle.link.specs.Back.{table-back, row-words, answer-back, cell-of-thing, thing-of-cell}
 use Rattle.link.specs.Ends.{past, past-cells}
 use Rattle.link.specs.Runs.{Results, no-word, level-word, term-word, All-say, none-say, says-on, runs}
 
@@ -40,6 +40,9 @@ pub record Ran-words (rows cells answers : List ℕ) (ran : Ran) (w : Machine) (
   -- each row's words, and the table that they are read back as
   pub each-row : (i : ℕ) (r : Row) → Row-at i r (ran .last .rows) → Row-words (w .state .cells) (w .rows) (w .cells) i r
   pub table : table-at (w .state .rows) (w .state .cells) (w .rows) (w .cells) ≡ some (ran .last .rows)
+  -- each cell's words
+  pub each-cell : (x : Thing) → Among x (ran .last .cells) → Cell-of (w .state .cells) (w .cells) x
+  pub each-thing : (i : ℕ) → i < w .state .cells → Thing-of (w .state .cells) (w .cells) (ran .last .cells) i
   -- the slices keep their lengths, and the words past those used stay
   pub rows-length : length (w .rows) ≡ length rows
   pub cells-length : length (w .cells) ≡ length cells
@@ -71,7 +74,7 @@ unfolding four-words
 said-words none-say = refl
 said-words (says-on {bs = bs} x xs) = let e = said-words xs in let f = suc-mul (length bs) 4 in omega arith
 
-said-calls : (calls : List Call) (w : Machine) → length (four-words (ask-all calls w .0)) ≡ 4 * length calls
+pub said-calls : (calls : List Call) (w : Machine) → length (four-words (ask-all calls w .0)) ≡ 4 * length calls
 unfolding four-words ask-all
 said-calls [] w = refl
 said-calls (call ∷ calls) w = let e = said-calls calls (ask-sized (size-call call) call w .1) in omega arith
@@ -96,6 +99,8 @@ module _ (limit : ℕ) (rows cells answers : List ℕ) (calls : List Call) (most
         each-answer = λ k a. each-answered h _ k a (r .says);
         each-row = λ i r k. row-words h k;
         table = table-back h in-order;
+        each-cell = λ x a. cell-of-thing h a;
+        each-thing = λ i l. thing-of-cell i h l;
         rows-length =
             let e = blocks-length (h .words .rows-are) in
             let c = played-counts limit calls (length rows) (length cells) most .rows in
@@ -121,6 +126,10 @@ no-answer : {k : ℕ} {a : Answer} {answers : List Answer} → Answer-at a k ans
 no-answer this-answer q = let z : _≡_ {A = ℕ} 0 1 = cc in omega arith
 no-answer (later-answer h) q = let z : _≡_ {A = ℕ} 0 1 = cc in omega arith
 
+no-thing : {x : Thing} {xs : List Thing} → Among x xs → xs ≡ [] → ⊥
+no-thing this-thing q = let z : _≡_ {A = ℕ} 0 1 = cc in omega arith
+no-thing (other-thing a) q = let z : _≡_ {A = ℕ} 0 1 = cc in omega arith
+
 refused-words : (rows cells answers : List ℕ) (n place : ℕ) → Asked-words rows cells answers (refused-run n place)
 unfolding ask-all start R.start table-at four-words written-over
 refused-words rows cells answers n place = record {
@@ -129,6 +138,8 @@ refused-words rows cells answers n place = record {
   each-answer = λ k a m. absurd (no-answer m refl);
   each-row = λ i r k. absurd (no-row k refl);
   table = refl;
+  each-cell = λ x a. absurd (no-thing a refl);
+  each-thing = λ i l. absurd (omega (arith, l));
   rows-length = refl;
   cells-length = refl;
   answers-length = refl;

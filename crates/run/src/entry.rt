@@ -5,6 +5,7 @@ ghost use lib.Seq.{sets};
 ghost use mathlib.Core.List.{[], _∷_};
 ghost use Rattle.producer.specs.Machine.{machine};
 ghost use lib.ListN.{length};
+ghost use Rattle.run.specs.Contract.{Runs};
 ghost use Rattle.run.specs.Run.{low-of, at-most, fresh, started, refused-of, answered-of, turn-end, turned, play-end, played, refused-run, end-run, run-of};
 use crate::call::call;
 use ast::words::put;
@@ -196,8 +197,8 @@ fn no_run(number: u32, place: usize) -> Ran
     }
 }
 
-// Plays a run. Refusals 1 to 4 are found before anything is stored, the lowest first.
-pub fn run(bytes: &[u8], rows: &mut [u32], cells: &mut [u32], answers: &mut [u32]) -> Ran
+// Refusals 1 to 4 are found before anything is stored, the lowest first; then the calls are played.
+fn play_run(bytes: &[u8], rows: &mut [u32], cells: &mut [u32], answers: &mut [u32]) -> Ran
     ensures { λ r. ⌜ end-run r (now (rows .exit)) (now (cells .exit)) (now (answers .exit)) ≡ run-of (now (bytes .entry)) (now (rows .entry)) (now (cells .entry)) (now (answers .entry)) ⌝ }
 {
     if rows.len() < 24 {
@@ -227,4 +228,11 @@ pub fn run(bytes: &[u8], rows: &mut [u32], cells: &mut [u32], answers: &mut [u32
             }
         }
     }
+}
+
+// Plays a run. Whatever the bytes and the slices, what it answers and leaves is the run of the definition.
+pub fn run(bytes: &[u8], rows: &mut [u32], cells: &mut [u32], answers: &mut [u32]) -> Ran
+    ensures { λ r. ⌜ Runs (now (bytes .entry)) (now (rows .entry)) (now (cells .entry)) (now (answers .entry)) r (now (rows .exit)) (now (cells .exit)) (now (answers .exit)) ⌝ }
+{
+    play_run(bytes, rows, cells, answers)
 }

@@ -1,14 +1,11 @@
--- Made by tools/prove.py: to make it again, run `python3 tools/prove.py exports`.
 use Rattle.exports.proofs.Laws.{put-five}
-use Rattle.exports.specs.Exports.{with-result, export-of}
+use Rattle.exports.specs.Exports.{too-short, long-enough}
 use borrow.Author.Needs.{needs}
-use borrow.Author.Tests.{le-ltb, lt-ltb}
 use Rattle.exports.proofs.run_derivations.Statement.{statement}
 use Rattle.exports.proofs.run_derivations.Tie as tie
 
 returns : tie.Need-returns
-unfolding export-of with-result
-returns c = rw (put-five _ _ _ _ _ _, lt-ltb _ _ (c .if1 .taken))
+returns c = too-short _ _ _ _ _ (c .if1 .taken)
 
 run-requires : tie.Need-run-requires
 run-requires c κs = search needs
@@ -41,9 +38,7 @@ same-length-4 : tie.Need-same-length-4
 same-length-4 c = search needs
 
 returns-2 : tie.Need-returns-2
-unfolding export-of with-result
-returns-2 c = rw (put-five _ _ _ _ _ _, le-ltb _ _ (c .before .before .before .before .before .before .before .before .before .before .before .before .before .before .before .before .before .before .before .before .before .before .before .before .before .before .before .before .before .before .if1 .left), ← c .before .before .before .before .before .before .before .before .before .before .before .before .before .before .before .before .before .before .before .before .before .before .before .before .before .before .run .ensures, ← c .before .before .before .before .before .before .before .before .before .before .before .before .before .before .before .before .before .before .put .ensures, ← c .before .before .before .before .before .before .before .before .before .before .before .before .before .before .put2 .ensures, ← c .before .before .before .before .before .before .before .before .before .before .put3 .ensures)
-    (rw (← c .before .before .before .before .before .before .put4 .ensures, ← c .before .before .put5 .ensures))
+returns-2 c = long-enough _ _ _ _ _ _ _ _ _ _ (c .before .before .before .before .before .before .before .before .before .before .before .before .before .before .before .before .before .before .before .before .before .before .before .before .before .before .before .before .before .before .if1 .left) (c .before .before .before .before .before .before .before .before .before .before .before .before .before .before .before .before .before .before .before .before .before .before .before .before .before .before .run .ensures) (rw (put-five _ _ _ _ _ _, ← c .before .before .before .before .before .before .before .before .before .before .before .before .before .before .before .before .before .before .put .ensures, ← c .before .before .before .before .before .before .before .before .before .before .before .before .before .before .put2 .ensures, ← c .before .before .before .before .before .before .before .before .before .before .put3 .ensures) (rw (← c .before .before .before .before .before .before .put4 .ensures, ← c .before .before .put5 .ensures)))
 
 pub run-derivations-spec : {M : Type 1} → statement M
 run-derivations-spec =

@@ -1,0 +1,64 @@
+-- What the entry promises of every run of bytes and all three slices: the run of the definition (`walked`), in words.
+-- How words are read, and what the words of an answer, a row and a cell are, is in `link`'s Table; demand 3's terms are in
+-- `walk`'s Demand. Nothing here speaks of how the entry works; `run-is-walked` of Same.Entry proves it.
+use Prim.Native.Nat.{ℕ, _*_, _≤_, _<_}
+use mathlib.Core.Path.{_≡_}
+use mathlib.Core.List.{List, _++_}
+use mathlib.Core.Option.{some}
+use lib.ListN.{length, getD}
+use Rattle.walk.specs.Judgment.{Judgment}
+use Rattle.walk.specs.State.{Row, Thing}
+use Rattle.walk.specs.Reader.{Call}
+use Rattle.walk.specs.Run.{Answer, play-all, start}
+use Rattle.walk.specs.Run as W
+use Rattle.walk.specs.Demand.{At, Row-at, Derivation-order, Distinct, Derives, cut, Extends, All-stated}
+use Rattle.link.specs.Table.{table-at, Answer-at, Answer-words, Row-words, Among, Cell-of, Thing-of}
+use Rattle.run.specs.declared.entry.Ran.{Ran}
+
+-- the definition's run of these bytes, in slices of these lengths
+abbrev pub walked : (bytes rows cells answers : List ℕ) → W.Ran
+walked bytes rows cells answers = W.run (length rows) (length cells) (length answers) bytes
+
+-- its five numbers
+abbrev pub numbers-of : W.Ran → Ran
+numbers-of ran = record { number = ran .number; place = ran .place; calls = length (ran .calls); rows = length (ran .last .rows); cells = length (ran .last .cells) }
+
+-- Demand 3 of the table that stands in the slices after the run, read from the words, judgments by quote.
+pub record Derived (bytes rows cells answers : List ℕ) (r : Ran) (rows′ cells′ : List ℕ) : Type 0 where
+  pub table : List Row
+  pub read : table-at (r .rows) (r .cells) rows′ cells′ ≡ some table
+  -- every row follows by the rule it names from exactly the rows it cites, all with lower numbers; no judgment has two rows
+  pub order : Derivation-order table
+  pub distinct : Distinct table
+  -- every accepted call's row states that call's judgment
+  pub stated : All-stated table (walked bytes rows cells answers .calls) (walked bytes rows cells answers .answers)
+  -- the same of the table cut after any row, which derives every judgment left in it
+  pub cut-order : (n : ℕ) → Derivation-order (cut n table)
+  pub cut-derives : (n m : ℕ) (j : Judgment) → At m j (cut n table) → Derives (cut n table) j
+  -- the table that the first calls leave stays, whatever the others are
+  pub grows : (first others : List Call) → walked bytes rows cells answers .calls ≡ first ++ others → Extends (play-all first (start (walked bytes rows cells answers .limit) (length rows) (length cells)) .1 .rows) table
+
+-- r is what the entry answers; rows′, cells′ and answers′ are the slices after it
+pub record Runs (bytes rows cells answers : List ℕ) (r : Ran) (rows′ cells′ answers′ : List ℕ) : Type 0 where
+  pub numbers : r ≡ numbers-of (walked bytes rows cells answers)
+  -- an answer a call, with its four words
+  pub answer-count : length (walked bytes rows cells answers .answers) ≡ r .calls
+  pub each-answer : (k : ℕ) (a : Answer) → Answer-at a k (walked bytes rows cells answers .answers) → Answer-words (r .cells) cells′ answers′ k a
+  -- the table: as it is read back, and word for word but for the working words
+  pub table : table-at (r .rows) (r .cells) rows′ cells′ ≡ some (walked bytes rows cells answers .last .rows)
+  pub each-row : (i : ℕ) (row : Row) → Row-at i row (walked bytes rows cells answers .last .rows) → Row-words (r .cells) rows′ cells′ i row
+  -- the cells: each thing that the walk counted has one, and no other is in use
+  pub each-cell : (x : Thing) → Among x (walked bytes rows cells answers .last .cells) → Cell-of (r .cells) cells′ x
+  pub each-thing : (i : ℕ) → i < r .cells → Thing-of (r .cells) cells′ (walked bytes rows cells answers .last .cells) i
+  pub derived : Derived bytes rows cells answers r rows′ cells′
+  -- words past the used ones stay
+  pub rows-length : length rows′ ≡ length rows
+  pub cells-length : length cells′ ≡ length cells
+  pub answers-length : length answers′ ≡ length answers
+  pub rows-stay : (i : ℕ) → r .rows * 24 ≤ i → getD rows′ i 0 ≡ getD rows i 0
+  pub cells-stay : (i : ℕ) → r .cells * 8 ≤ i → getD cells′ i 0 ≡ getD cells i 0
+  pub answers-stay : (i : ℕ) → r .calls * 4 ≤ i → getD answers′ i 0 ≡ getD answers i 0
+  -- a run refused as a whole changes nothing
+  pub rows-kept : (r .number ≡ 0 → ⊥) → rows′ ≡ rows
+  pub cells-kept : (r .number ≡ 0 → ⊥) → cells′ ≡ cells
+  pub answers-kept : (r .number ≡ 0 → ⊥) → answers′ ≡ answers

@@ -1,0 +1,75 @@
+-- The run over words does what the contract says.
+use Prim.Native.Nat.{ℕ, suc}
+use mathlib.Core.Path.{_≡_, refl, ap, _∙_}
+use mathlib.Core.List.{List, [], _∷_}
+use lib.ListN.{length}
+use Rattle.walk.specs.State.{State}
+use Rattle.walk.specs.Reader.{Call}
+use Rattle.walk.specs.Run.{play, play-all, start}
+use Rattle.walk.specs.Run as W
+use Rattle.walk.specs.Demand.{Demand-3}
+use Rattle.order.specs.Cases.{run-cases}
+use Rattle.link.specs.Asked.{ask-all, four-words, written-over}
+use Rattle.link.specs.Asked as L
+use Rattle.link.specs.Words.{Asked-words, words}
+use Rattle.run.specs.declared.entry.Ran.{Ran}
+use Rattle.run.specs.Run.{Ended, end-run, run-of}
+use Rattle.run.specs.Contract.{walked, numbers-of, Derived, Runs}
+use Rattle.run.specs.Same.Runs.{ended, run-is}
+
+answer-each : (calls : List Call) (s : State) → length (play-all calls s .0) ≡ length calls
+unfolding play-all
+answer-each [] s = refl
+answer-each (call ∷ calls) s = ap suc (answer-each calls (play call s .1))
+
+module _ (bytes rows cells answers : List ℕ) where
+  -- a run is refused, or read and played
+  counted : length (walked bytes rows cells answers .answers) ≡ length (walked bytes rows cells answers .calls)
+  counted = run-cases (length rows) (length cells) (length answers) bytes (λ ran. length (ran .answers) ≡ length (ran .calls)) (λ n place. refl) (λ limit calls r. answer-each calls (start limit (length rows) (length cells)))
+
+  kept : {A : Type 0} (of : Ended → A) (before : A) → ((n place : ℕ) → of (ended (W.refused-run n place) rows cells answers) ≡ before) → (walked bytes rows cells answers .number ≡ 0 → ⊥) → of (ended (walked bytes rows cells answers) rows cells answers) ≡ before
+  kept of before h = run-cases (length rows) (length cells) (length answers) bytes (λ ran. (ran .number ≡ 0 → ⊥) → of (ended ran rows cells answers) ≡ before) (λ n place _. h n place) (λ limit calls r z. absurd (z refl))
+
+  derived-words : Asked-words rows cells answers (walked bytes rows cells answers) → Demand-3 (length rows) (length cells) (walked bytes rows cells answers) → Derived bytes rows cells answers (numbers-of (walked bytes rows cells answers)) (ended (walked bytes rows cells answers) rows cells answers .rows) (ended (walked bytes rows cells answers) rows cells answers .cells)
+  derived-words a d = record {
+    table = walked bytes rows cells answers .last .rows;
+    read = rw (← a .row-count, ← a .cell-count) (a .table);
+    order = d .order;
+    distinct = d .distinct;
+    stated = d .stated;
+    cut-order = d .cut-order;
+    cut-derives = d .cut-derives;
+    grows = d .grows;
+  }
+
+  ended-runs : Asked-words rows cells answers (walked bytes rows cells answers) → Demand-3 (length rows) (length cells) (walked bytes rows cells answers) → Runs bytes rows cells answers (numbers-of (walked bytes rows cells answers)) (ended (walked bytes rows cells answers) rows cells answers .rows) (ended (walked bytes rows cells answers) rows cells answers .cells) (ended (walked bytes rows cells answers) rows cells answers .answers)
+  unfolding ask-all L.start four-words written-over
+  ended-runs a d = record {
+    numbers = refl;
+    answer-count = counted;
+    each-answer = rw (← a .cell-count) (a .each-answer);
+    table = rw (← a .row-count, ← a .cell-count) (a .table);
+    each-row = rw (← a .cell-count) (a .each-row);
+    each-cell = rw (← a .cell-count) (a .each-cell);
+    each-thing = rw (← a .cell-count) (a .each-thing);
+    derived = derived-words a d;
+    rows-length = a .rows-length;
+    cells-length = a .cells-length;
+    answers-length = a .answers-length;
+    rows-stay = a .rows-stay;
+    cells-stay = a .cells-stay;
+    answers-stay = rw (← counted) (a .answers-stay);
+    rows-kept = kept (λ x. x .rows) rows (λ n place. refl);
+    cells-kept = kept (λ x. x .cells) cells (λ n place. refl);
+    answers-kept = kept (λ x. x .answers) answers (λ n place. refl);
+  }
+
+  numbers-is : Asked-words rows cells answers (walked bytes rows cells answers) → ended (walked bytes rows cells answers) rows cells answers .ran ≡ numbers-of (walked bytes rows cells answers)
+  numbers-is a = rw (a .row-count, a .cell-count)
+
+  pub run-is-walked : (r : Ran) (rows′ cells′ answers′ : List ℕ) → end-run r rows′ cells′ answers′ ≡ run-of bytes rows cells answers → Runs bytes rows cells answers r rows′ cells′ answers′
+  run-is-walked r rows′ cells′ answers′ e =
+      let q = e ∙ run-is bytes rows cells answers in
+      let (a, d) = words rows cells answers bytes in
+      let n : r ≡ numbers-of (walked bytes rows cells answers) = ap (λ (x : Ended). x .ran) q ∙ numbers-is a in
+      rw (n, ap (λ (x : Ended). x .rows) q, ap (λ (x : Ended). x .cells) q, ap (λ (x : Ended). x .answers) q) (ended-runs a d)
