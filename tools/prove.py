@@ -22,7 +22,7 @@ SHUT = ('callees', 'rounds', 'built', 'scoped', 'run-of')  # what is never unfol
 CHUNK = 6  # entries in one rewriting: a longer one is nested
 
 FN, UNF, LENDS = {}, {}, set()
-DEFINED = ('walk', 'syntax')  # crates whose definitions no proof unfolds
+DEFINED = ('walk', 'syntax', 'order', 'link')  # crates whose definitions no proof unfolds
 for dep in crates()[CRATE] + [CRATE]:
     found = functions(dep)
     if dep not in DEFINED:

@@ -16,7 +16,7 @@ def functions(crate):
     for path in sorted(glob.glob('crates/%s/src/*.rt' % crate)):
         text = open(path).read()
         starts = [m.start() for m in re.finditer(r'^ *(?:pub )?(?:extern "C" )?fn \w+\(', text, re.M)] + [len(text)]
-        impls = [(m.start(), m.group(1)) for m in re.finditer(r'^impl (\w+) \{', text, re.M)]
+        impls = [(m.start(), m.group(1)) for m in re.finditer(r'^impl(?:<[^>]*>)? (\w+)(?:<[^>]*>)? \{', text, re.M)]
         for a, b in zip(starts, starts[1:]):
             part = text[a:b]
             name = re.match(r' *(?:pub )?(?:extern "C" )?fn (\w+)\(', part).group(1)

@@ -4,7 +4,7 @@
 UNFOLD = {
     'call': 'called-in',
     'step': 'turned-by',
-    'run': 'run-by read-run',
+    'play-run': 'run-by read-run',
     'run-derivations': 'with-result',
     'emit': 'known-row known-or new-row add-row',
     'intern': 'known-or new-cell add-cell',
