@@ -7,3 +7,4 @@ mod Runs
 mod Measure
 mod Depths
 mod Counts
+mod Coded

@@ -7,3 +7,5 @@ pub mod Heads
 pub mod Calls
 pub mod Fuel
 pub mod Nodes
+-- The codes of a run's calls.
+pub mod Codes

@@ -1,9 +1,11 @@
 // The reader of a run's bytes: whether they are a run, and the limits of its calls.
+pub mod codes;
 pub mod cursor;
 pub mod limits;
 mod parts;
 pub mod scan;
 
+pub use codes::call_codes;
 pub use cursor::Reader;
 pub use limits::Size;
 pub use limits::size_call;
