@@ -1,5 +1,6 @@
 //! Runs to compare by: `case(seed, place)` is one of endlessly many, `seeds()`
 //! are those written by hand.
+mod bench;
 mod calls;
 mod damage;
 mod edges;
@@ -10,6 +11,7 @@ mod shapes;
 mod term;
 mod typed;
 
+pub use bench::case as bench;
 pub use calls::Case;
 pub use random::Random;
 pub use runs::{case, short, sweep};

@@ -87,7 +87,7 @@ pub fn cases() -> Vec<Case> {
 
 /// A run that fills all 50,000 rows, then asks again for what it knows and for
 /// something new.
-fn filled() -> Case {
+pub fn filled() -> Case {
     let known = Call::new(3, 0, &[], &[Zero, Nat]);
     let mut calls = vec![known.clone()];
     for d in 0..34 {

@@ -9,7 +9,7 @@ use std::collections::HashMap;
 use std::hash::{BuildHasherDefault, Hasher};
 
 /// Kind and three parts. The kinds of terms and intervals are a run's codes.
-type Node = [u32; 4];
+pub type Node = [u32; 4];
 
 const NIL: u32 = 32;
 const CONS: u32 = 33;
@@ -32,6 +32,20 @@ impl Cells {
 
     pub fn used(&self) -> u32 {
         self.known.len() as u32
+    }
+
+    /// The node of each cell, by the order in which they were first counted.
+    pub fn nodes(&self) -> Vec<Node> {
+        let mut nodes = vec![[0; 4]; self.known.len()];
+        for (node, cell) in &self.known {
+            nodes[*cell as usize] = *node;
+        }
+        nodes
+    }
+
+    /// The walk is over: what is looked up from here on is no work of its.
+    pub fn unbounded(&mut self) {
+        self.work_left = u64::MAX;
     }
 
     fn one(&mut self, kind: u32, a: u32, b: u32, c: u32) -> Result<u32> {

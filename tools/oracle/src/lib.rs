@@ -14,5 +14,6 @@ mod run;
 pub mod sexp;
 mod watch;
 
+pub use cells::Node;
 pub use refusal::Refusal;
 pub use run::{on_large_stack, play, Answer, Options, Ran, Row, Slices, Value};

@@ -1,4 +1,5 @@
 //! A whole run: refusals 1 to 4, then each call in turn.
+use crate::cells::Node;
 use crate::cubical::producer::play::Player;
 use crate::reader::{read, Bad};
 use crate::sexp::Sexp;
@@ -63,6 +64,9 @@ pub struct Ran {
     pub cells: u32,
     pub answers: Vec<Answer>,
     pub rows: Vec<Row>,
+    /// Each cell's kind and parts, and what is remembered: cell, type's cell, row.
+    pub nodes: Vec<Node>,
+    pub remembered: Vec<[u32; 3]>,
 }
 
 const MAX_BYTES: usize = 65_536;
@@ -87,8 +91,12 @@ pub fn play(bytes: &[u8], slices: Slices, options: &Options) -> Option<Ran> {
     let row_room = MAX_ROWS.min(slices.rows as usize / 24);
     let mut player = Player::new(limit, row_room, slices.cells / 8, options);
     let answers = calls.iter().map(|call| player.answer(call)).collect::<Option<_>>()?;
-    let cells = player.cells();
-    Some(Ran { number: 0, place: 0, cells, answers, rows: player.rows() })
+    let (cells, mut nodes, mut remembered) = (player.cells(), Vec::new(), Vec::new());
+    if options.counting {
+        remembered = player.remembered();
+        nodes = player.nodes();
+    }
+    Some(Ran { number: 0, place: 0, cells, answers, rows: player.rows(), nodes, remembered })
 }
 
 /// Runs `f` on a stack as large as the source's own, where 4,096 nested

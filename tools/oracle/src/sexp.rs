@@ -52,7 +52,7 @@ impl Sexp {
     }
 
     /// The number that this is, where it is one: z, or s of a number.
-    fn number(&self) -> Option<usize> {
+    pub fn number(&self) -> Option<usize> {
         let mut at = self;
         let mut n = 0;
         loop {

@@ -1,6 +1,6 @@
 //! The calls of a run, over one producer: what the source's own requests were.
 use super::{syntax, Producer, Term};
-use crate::cells::Cells;
+use crate::cells::{Cells, Node};
 use crate::reader::Call;
 use crate::refusal::Refusal;
 use crate::run::{Answer, Options, Row, Value};
@@ -59,6 +59,23 @@ impl Player {
 
     pub fn cells(&self) -> u32 {
         self.0.watch.cells.used()
+    }
+
+    pub fn nodes(&self) -> Vec<Node> {
+        self.0.watch.cells.nodes()
+    }
+
+    /// What `infer` remembers at the end: cell, type's cell and row of each
+    /// inference. All of their parts have cells, so none is added here.
+    pub fn remembered(&mut self) -> Vec<[u32; 3]> {
+        let Producer { inferred, watch, .. } = &mut self.0;
+        watch.cells.unbounded();
+        let mut one = |((d, g, t), (ty, row)): (&(usize, Vec<Term>, Term), &(Term, usize))| {
+            let cell = watch.cells.inference(*d, g, t)?;
+            Ok([cell, watch.cells.term(ty)?, *row as u32])
+        };
+        let out: Result<Vec<[u32; 3]>> = inferred.iter().map(&mut one).collect();
+        out.expect("an inference without a cell")
     }
 
     pub fn rows(self) -> Vec<Row> {

@@ -1,0 +1,78 @@
+//! Times of the program and of the source on the same runs, each side in a
+//! process of its own that plays its runs again and again.
+use crate::program;
+use generator::Case;
+use oracle::{play, Options, Slices};
+use std::io::{Error, Result};
+use std::process::Command;
+use std::time::Instant;
+
+/// The kinds of runs, and how often each is played in one measurement.
+pub const KINDS: &[(&str, &str, u64)] = &[
+    ("small", "65,534 bytes of small calls", 2),
+    ("rows", "a run that fills 50,000 rows", 1),
+    ("deep", "deep nesting", 20),
+    ("intervals", "long intervals", 20),
+    ("doubling", "doubling substitutions", 20),
+    ("converted", "converted arguments", 20),
+];
+
+/// One side's time of one measurement, in nanoseconds.
+fn once(side: &str, case: &Case, times: u64) -> u128 {
+    let [rows, cells, answers] = case.slices;
+    if side == "program" {
+        let mut words = [rows, cells, answers].map(|n| vec![0; n as usize]);
+        let [rows, cells, answers] = &mut words;
+        let start = Instant::now();
+        for _ in 0..times {
+            program::play(&case.bytes, rows, cells, answers, &mut [0; 5]);
+        }
+        return start.elapsed().as_nanos();
+    }
+    // The source as it is: no cell is counted.
+    let options = Options { counting: side == "counted", ..Options::default() };
+    let start = Instant::now();
+    for _ in 0..times {
+        assert!(play(&case.bytes, Slices { rows, cells, answers }, &options).is_some());
+    }
+    start.elapsed().as_nanos()
+}
+
+/// What a process of its own does: it prints the nanoseconds of one play.
+pub fn side(side: &str, kind: &str, times: u64) -> Option<String> {
+    let case = generator::bench(kind)?;
+    Some(format!("{}\n", oracle::on_large_stack(|| once(side, &case, times)) / u128::from(times)))
+}
+
+fn measured(side: &str, kind: &str, times: u64) -> Result<f64> {
+    let me = std::env::current_exe()?;
+    let out = Command::new(me).args(["play", side, kind, &times.to_string()]).output()?;
+    let text = String::from_utf8_lossy(&out.stdout);
+    text.trim().parse().map_err(|_| Error::other(format!("{side} {kind}: {text}")))
+}
+
+/// Least, middle and most of some measurements, in milliseconds.
+fn spread(mut all: Vec<f64>) -> [f64; 3] {
+    all.sort_by(f64::total_cmp);
+    [all[0], all[all.len() / 2], all[all.len() - 1]].map(|ns| ns / 1e6)
+}
+
+pub fn table(kinds: &[&str], repeats: usize) -> Result<()> {
+    println!("milliseconds a run: least, middle, most of {repeats} processes each");
+    println!("kind | program | Rust | ratio of the middle ones");
+    for (kind, said, times) in KINDS {
+        if !kinds.is_empty() && !kinds.contains(kind) {
+            continue;
+        }
+        let mut sides = [Vec::new(), Vec::new()];
+        // In turn, so that both sides meet the machine's other work alike.
+        for _ in 0..repeats {
+            sides[0].push(measured("program", kind, *times)?);
+            sides[1].push(measured("source", kind, *times)?);
+        }
+        let [ours, theirs] = sides.map(spread);
+        let show = |[a, b, c]: [f64; 3]| format!("{a:.3} {b:.3} {c:.3}");
+        println!("{said} | {} | {} | {:.2}", show(ours), show(theirs), ours[1] / theirs[1]);
+    }
+    Ok(())
+}

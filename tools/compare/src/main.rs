@@ -1,0 +1,163 @@
+//! Compares the program with the oracle, run by run.
+mod bench;
+mod program;
+mod quote;
+mod same;
+mod shown;
+mod shrink;
+mod tally;
+mod vectors;
+mod work;
+
+#[cfg(test)]
+mod tests;
+
+use generator::Case;
+use std::io::{self, Write};
+use std::path::Path;
+use std::process::ExitCode;
+use work::{Asked, Sides, Source};
+
+const USAGE: &str = "\
+compare SEED COUNT [FIRST]        runs FIRST, FIRST + 1, .. of the generator
+compare sweep SEED COUNT [FIRST]  each in many slices and limits
+compare seeds                     those written by hand
+compare short LENGTH              every run of so many bytes
+compare batch                     those of standard input, as the generator writes them
+compare vectors SEED FOLDER       writes stored runs, and what replay says of them
+compare bench [KIND..] [--times N]  times of both sides, N processes each (5)
+compare play SIDE KIND TIMES      one process of these: program, source or counted
+    --full        every run in 50,000 rows, at the highest nesting limit
+    --work STEPS  gives a run up where the oracle takes more (10,000,000)
+    --threads N   (2)
+";
+
+fn main() -> ExitCode {
+    let words: Vec<String> = std::env::args().skip(1).collect();
+    let parts: Vec<&str> = words.iter().map(String::as_str).collect();
+    match parts[..] {
+        ["vectors", seed, folder] => return write_vectors(seed, folder),
+        ["bench", ref kinds @ ..] => return benchmark(kinds),
+        ["play", side, kind, times] => return one_side(side, kind, times),
+        _ => {}
+    }
+    let Some(asked) = asked(&words) else {
+        eprint!("{USAGE}");
+        return ExitCode::from(2);
+    };
+    let (tally, found) = asked.compare();
+    let mut out = String::new();
+    tally.write(&mut out).unwrap();
+    let status = match found {
+        None => {
+            out.push_str("no difference\n");
+            ExitCode::SUCCESS
+        }
+        Some(found) => {
+            let explain = || Sides::new(asked.work).explain(found);
+            out.push_str(&oracle::on_large_stack(explain));
+            ExitCode::FAILURE
+        }
+    };
+    match io::stdout().write_all(out.as_bytes()) {
+        Ok(()) => status,
+        Err(_) => ExitCode::FAILURE,
+    }
+}
+
+fn write_vectors(seed: &str, folder: &str) -> ExitCode {
+    let Ok(seed) = seed.parse() else {
+        eprint!("{USAGE}");
+        return ExitCode::from(2);
+    };
+    match oracle::on_large_stack(|| vectors::write(seed, Path::new(folder))) {
+        Ok(said) => {
+            print!("{said}");
+            ExitCode::SUCCESS
+        }
+        Err(e) => {
+            eprintln!("compare: {e}");
+            ExitCode::FAILURE
+        }
+    }
+}
+
+fn benchmark(words: &[&str]) -> ExitCode {
+    let (kinds, repeats) = match words {
+        [kinds @ .., "--times", n] => (kinds, n.parse().unwrap_or(5)),
+        kinds => (kinds, 5),
+    };
+    match bench::table(kinds, repeats) {
+        Ok(()) => ExitCode::SUCCESS,
+        Err(e) => {
+            eprintln!("compare: {e}");
+            ExitCode::FAILURE
+        }
+    }
+}
+
+fn one_side(side: &str, kind: &str, times: &str) -> ExitCode {
+    match times.parse().ok().and_then(|times| bench::side(side, kind, times)) {
+        Some(said) => {
+            print!("{said}");
+            ExitCode::SUCCESS
+        }
+        None => {
+            eprint!("{USAGE}");
+            ExitCode::from(2)
+        }
+    }
+}
+
+fn asked(words: &[String]) -> Option<Asked> {
+    let mut asked = Asked {
+        source: Source::Listed(Vec::new()),
+        first: 0,
+        count: 0,
+        full: false,
+        work: 10_000_000,
+        threads: 2,
+    };
+    let mut plain: Vec<&str> = Vec::new();
+    let mut words = words.iter();
+    while let Some(word) = words.next() {
+        match word.as_str() {
+            "--full" => asked.full = true,
+            "--work" => asked.work = words.next()?.parse().ok()?,
+            "--threads" => asked.threads = words.next()?.parse().ok()?,
+            word if word.starts_with('-') => return None,
+            word => plain.push(word),
+        }
+    }
+    let listed = match plain[..] {
+        ["seeds"] => Some(generator::seeds()),
+        ["short", length] => Some(generator::short(length.parse().ok()?).collect()),
+        ["batch"] => Some(batch()?),
+        _ => None,
+    };
+    if let Some(cases) = listed {
+        asked.count = cases.len() as u64;
+        asked.source = Source::Listed(cases);
+        return Some(asked);
+    }
+    let swept = plain.first() == Some(&"sweep");
+    let numbers: Option<Vec<u64>> =
+        plain[usize::from(swept)..].iter().map(|word| word.parse().ok()).collect();
+    let seed;
+    (seed, asked.count, asked.first) = match numbers?[..] {
+        [seed, count] => (seed, count, 0),
+        [seed, count, first] => (seed, count, first),
+        _ => return None,
+    };
+    asked.source = if swept { Source::Swept(seed) } else { Source::Seeded(seed) };
+    Some(asked)
+}
+
+fn batch() -> Option<Vec<Case>> {
+    let mut input = io::BufReader::new(io::stdin());
+    let mut cases = Vec::new();
+    while let Some((slices, bytes)) = oracle::batch::next(&mut input).ok()? {
+        cases.push(Case { slices: [slices.rows, slices.cells, slices.answers], bytes });
+    }
+    Some(cases)
+}

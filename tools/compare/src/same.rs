@@ -1,0 +1,207 @@
+//! Whether what the program left is what the oracle says: every answer word,
+//! every row, every cell, the counts, and that no other word changed.
+//!
+//! Numbers of cells are open to the program. So its cells are mapped to the
+//! oracle's by kind and parts, and what names a cell is compared by quote.
+use crate::program::{all, Left, FILLS};
+use crate::quote;
+use oracle::sexp::Sexp;
+use oracle::{rules, Node, Ran, Value};
+use std::collections::HashMap;
+
+pub const NO_ROW: u32 = u32::MAX;
+const ROW: usize = 24;
+const CELL: usize = 8;
+const ANSWER: usize = 4;
+
+/// What differs, in words.
+pub type Difference = String;
+
+fn want(holds: bool, say: impl FnOnce() -> String) -> Result<(), Difference> {
+    if holds {
+        Ok(())
+    } else {
+        Err(say())
+    }
+}
+
+pub fn compare(left: &Left, ran: &Ran) -> Result<(), Difference> {
+    counts(left, ran)?;
+    let nodes = cells(left, ran)?;
+    for i in 0..ran.answers.len() {
+        answer(left, ran, &nodes, i)?;
+    }
+    for i in 0..ran.rows.len() {
+        row(left, ran, &nodes, i)?;
+    }
+    Ok(())
+}
+
+fn counts(left: &Left, ran: &Ran) -> Result<(), Difference> {
+    let sizes = [ran.answers.len() as u32, ran.rows.len() as u32, ran.cells];
+    let wanted = [u32::from(ran.number), ran.place as u32, sizes[0], sizes[1], sizes[2]];
+    for (i, name) in ["number", "place", "calls", "rows", "cells"].iter().enumerate() {
+        let (got, wanted) = (left.result[i], wanted[i]);
+        want(got == wanted, || format!("the run's {name}: {got}, wanted {wanted}"))?;
+    }
+    let past = |words: &[u32], used: usize| words.len().min(used)..words.len();
+    for (name, words, used, fill) in [
+        ("row table", left.rows, ran.rows.len() * ROW, FILLS[0]),
+        ("cell store", left.cells, ran.cells as usize * CELL, FILLS[1]),
+        ("answers", left.answers, ran.answers.len() * ANSWER, FILLS[2]),
+        ("result", &left.result[..], 5, FILLS[3]),
+    ] {
+        let rest = &words[past(words, used)];
+        want(all(rest, fill), || {
+            let at = used + rest.iter().position(|word| *word != fill).unwrap();
+            format!("{name}: word {at} is past the {used} used ones and changed")
+        })?;
+    }
+    Ok(())
+}
+
+/// The program's cells as nodes.
+pub fn nodes_of(cells: &[u32], count: u32) -> Vec<Node> {
+    let words = cells.chunks_exact(CELL).take(count as usize);
+    words.map(|w| [w[0], w[1], w[2], w[3]]).collect()
+}
+
+/// The cells are the oracle's, whatever their numbers: each different node once,
+/// parts below the whole; the word for the quote is the lowest cell with it; an
+/// inference remembers the same type and row; spare words are 0.
+fn cells(left: &Left, ran: &Ran) -> Result<Vec<Node>, Difference> {
+    let nodes = nodes_of(left.cells, ran.cells);
+    for (i, node) in nodes.iter().enumerate() {
+        let low = quote::parts(node[0]).iter().all(|part| (node[*part] as usize) < i);
+        want(low, || format!("cell {i}: a part {node:?} is not below it"))?;
+    }
+    let map = mapped(&nodes, &ran.nodes)?;
+    let mut lowest = HashMap::new();
+    let mut quotes: Vec<u32> = Vec::with_capacity(nodes.len());
+    for (i, node) in nodes.iter().enumerate() {
+        let words = &left.cells[i * CELL..(i + 1) * CELL];
+        let mut look = [node[0], 0, 0, 0];
+        if quote::is_numbered(node[0]) {
+            look[1] = node[1];
+        }
+        for part in quote::shown(node[0]) {
+            look[*part] = quotes[node[*part] as usize];
+        }
+        if node[0] == quote::INFERENCE {
+            quotes.push(u32::MAX);
+            want(words[6..] == [0, 0], || format!("cell {i}: spare words {:?}", &words[6..]))?;
+            continue;
+        }
+        let first = *lowest.entry(look).or_insert(i as u32);
+        quotes.push(first);
+        want(words[4] == first, || {
+            format!("cell {i}: the lowest with its quote is {}, wanted {first}", words[4])
+        })?;
+        want(words[5..] == [0, 0, 0], || format!("cell {i}: spare words {:?}", &words[5..]))?;
+    }
+    remembered(left, ran, &nodes, &map)?;
+    Ok(nodes)
+}
+
+/// The oracle's number of each of the program's cells.
+fn mapped(nodes: &[Node], wanted: &[Node]) -> Result<Vec<u32>, Difference> {
+    if nodes == wanted {
+        return Ok((0..nodes.len() as u32).collect());
+    }
+    let known: HashMap<&Node, u32> = wanted.iter().zip(0..).collect();
+    let mut map: Vec<u32> = Vec::with_capacity(nodes.len());
+    let mut used = vec![false; wanted.len()];
+    for (i, node) in nodes.iter().enumerate() {
+        let mut there = *node;
+        for part in quote::parts(node[0]) {
+            there[*part] = map[node[*part] as usize];
+        }
+        let Some(&cell) = known.get(&there) else {
+            return Err(format!("cell {i} is {node:?}, which should have none"));
+        };
+        want(!used[cell as usize], || format!("cell {i} is {node:?}, which has two"))?;
+        used[cell as usize] = true;
+        map.push(cell);
+    }
+    Ok(map)
+}
+
+fn remembered(left: &Left, ran: &Ran, nodes: &[Node], map: &[u32]) -> Result<(), Difference> {
+    let known: HashMap<u32, [u32; 2]> =
+        ran.remembered.iter().map(|[cell, ty, row]| (*cell, [*ty, *row])).collect();
+    let mut count = 0;
+    for (i, node) in nodes.iter().enumerate() {
+        if node[0] != quote::INFERENCE {
+            continue;
+        }
+        count += 1;
+        let words = &left.cells[i * CELL..(i + 1) * CELL];
+        let got = map.get(words[4] as usize).map(|ty| [*ty, words[5]]);
+        let wanted = known.get(&map[i]).copied();
+        want(got.is_some() && got == wanted, || {
+            format!("cell {i}: it remembers {got:?}, wanted {wanted:?} (type's cell, row)")
+        })?;
+    }
+    want(count == known.len(), || format!("{count} inferences, wanted {}", known.len()))
+}
+
+fn answer(left: &Left, ran: &Ran, nodes: &[Node], i: usize) -> Result<(), Difference> {
+    let wanted = &ran.answers[i];
+    let words = &left.answers[i * ANSWER..(i + 1) * ANSWER];
+    let row = wanted.row.map_or(NO_ROW, |row| row as u32);
+    for (place, name, wanted) in
+        [(0, "number", u32::from(wanted.number)), (1, "row", row), (3, "deepest", wanted.deepest)]
+    {
+        let got = words[place];
+        want(got == wanted, || format!("call {i}'s {name}: {got}, wanted {wanted}"))?;
+    }
+    let got = words[2];
+    match &wanted.value {
+        Value::None => want(got == 0, || format!("call {i}'s result: {got}, wanted 0")),
+        Value::Level(level) => {
+            want(got as usize == *level, || format!("call {i}'s level: {got}, wanted {level}"))
+        }
+        Value::Quote(quote) => want(quote::is(nodes, got, quote), || {
+            format!("call {i}'s result: {}, wanted {quote}", quote::text(nodes, got))
+        }),
+    }
+}
+
+fn row(left: &Left, ran: &Ran, nodes: &[Node], i: usize) -> Result<(), Difference> {
+    let wanted = &ran.rows[i];
+    let words = &left.rows[i * ROW..(i + 1) * ROW];
+    let number = rules::number(&wanted.rule) as u32;
+    want(words[0] == number, || {
+        format!("row {i}'s rule: {}, wanted {number} ({})", words[0], wanted.rule)
+    })?;
+    let mut cited = [0; 11];
+    cited[0] = wanted.refs.len() as u32;
+    for (place, row) in cited[1..].iter_mut().zip(&wanted.refs) {
+        *place = *row as u32;
+    }
+    want(words[1..12] == cited, || {
+        format!("row {i} cites {:?}, wanted {cited:?} (how many, then which)", &words[1..12])
+    })?;
+    let Sexp::List(judgment) = &wanted.judgment else {
+        return Err(format!("row {i}: the oracle's judgment is an atom"));
+    };
+    let arguments = &judgment[1..];
+    want(words[12] as usize == arguments.len(), || {
+        format!("row {i} has {} arguments, wanted {}", words[12], arguments.len())
+    })?;
+    for place in 0..5 {
+        let got = words[13 + place];
+        let holds = match arguments.get(place) {
+            None => got == 0,
+            Some(argument) => match argument.number() {
+                Some(n) => got as usize == n,
+                None => quote::is(nodes, got, argument),
+            },
+        };
+        want(holds, || {
+            let quoted = quote::text(nodes, got);
+            format!("row {i}'s argument {place}: {got} ({quoted}), wanted {}", wanted.judgment)
+        })?;
+    }
+    Ok(())
+}

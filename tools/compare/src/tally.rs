@@ -1,0 +1,125 @@
+//! What a comparison met, counted.
+use oracle::{rules, Ran};
+use std::fmt::{self, Write};
+
+pub const NUMBERS: usize = 21;
+
+/// The rows that the Rust's table always has.
+const ROWS: u32 = 50_000;
+
+#[derive(Clone)]
+pub struct Tally {
+    pub runs: u64,
+    /// Given up by the oracle for its work; the program doesn't play these.
+    pub slow: u64,
+    pub slow_places: Vec<u64>,
+    /// Runs that were read, by document 01's line between those that the Rust
+    /// answers too and those that it can't.
+    pub inside: u64,
+    pub never_full: u64,
+    pub outside: u64,
+    pub calls: u64,
+    pub rows: u64,
+    pub cells: u64,
+    /// By number: 0 accepted, 1 to 4 runs, the rest calls.
+    pub numbers: [u64; NUMBERS],
+    pub rules: [u64; rules::NAMES.len()],
+}
+
+impl Default for Tally {
+    fn default() -> Self {
+        Self {
+            runs: 0,
+            slow: 0,
+            slow_places: Vec::new(),
+            inside: 0,
+            never_full: 0,
+            outside: 0,
+            calls: 0,
+            rows: 0,
+            cells: 0,
+            numbers: [0; NUMBERS],
+            rules: [0; rules::NAMES.len()],
+        }
+    }
+}
+
+impl Tally {
+    pub fn add(&mut self, slices: [u32; 3], ran: &Ran) {
+        self.runs += 1;
+        self.calls += ran.answers.len() as u64;
+        self.rows += ran.rows.len() as u64;
+        self.cells += u64::from(ran.cells);
+        for answer in &ran.answers {
+            self.numbers[usize::from(answer.number)] += 1;
+        }
+        for row in &ran.rows {
+            self.rules[rules::number(&row.rule)] += 1;
+        }
+        if ran.number != 0 {
+            self.numbers[usize::from(ran.number)] += 1;
+            return;
+        }
+        let met = |number| ran.answers.iter().any(|answer| answer.number == number);
+        let full_table = slices[0] / 24 >= ROWS;
+        *if met(19) || met(20) || (met(18) && !full_table) {
+            &mut self.outside
+        } else if full_table {
+            &mut self.inside
+        } else {
+            &mut self.never_full
+        } += 1;
+    }
+
+    pub fn join(&mut self, other: &Self) {
+        self.runs += other.runs;
+        self.slow += other.slow;
+        self.slow_places.extend(&other.slow_places);
+        self.inside += other.inside;
+        self.never_full += other.never_full;
+        self.outside += other.outside;
+        self.calls += other.calls;
+        self.rows += other.rows;
+        self.cells += other.cells;
+        for (sum, count) in self.numbers.iter_mut().zip(other.numbers) {
+            *sum += count;
+        }
+        for (sum, count) in self.rules.iter_mut().zip(other.rules) {
+            *sum += count;
+        }
+    }
+
+    /// Refusals 1 to 20 and rules 0 to 94 that were not met.
+    pub fn missing(&self) -> (Vec<usize>, Vec<usize>) {
+        let none = |counts: &[u64], from: usize| {
+            (from..counts.len()).filter(|i| counts[*i] == 0).collect()
+        };
+        (none(&self.numbers, 1), none(&self.rules, 0))
+    }
+
+    pub fn write(&self, out: &mut String) -> fmt::Result {
+        writeln!(out, "runs compared {}", self.runs)?;
+        writeln!(out, "  table of 50,000 rows, no 19 or 20: {}", self.inside)?;
+        writeln!(out, "  shorter table, never full, no 19 or 20: {}", self.never_full)?;
+        writeln!(out, "  outside the Rust's: 19, 20, or 18 in a shorter table: {}", self.outside)?;
+        writeln!(out, "  refused as a whole: {}", self.numbers[1..=4].iter().sum::<u64>())?;
+        let places = &self.slow_places;
+        writeln!(out, "runs left out, too slow for the oracle {} at {places:?}", self.slow)?;
+        writeln!(out, "calls {} accepted {}", self.calls, self.numbers[0])?;
+        writeln!(out, "rows {} cells {}", self.rows, self.cells)?;
+        line(out, "refusals", &self.numbers, 1)?;
+        line(out, "rules", &self.rules, 0)?;
+        let (numbers, rules) = self.missing();
+        writeln!(out, "refusals not met {numbers:?} rules not met {rules:?}")
+    }
+}
+
+/// `number:count`, ten to a line.
+fn line(out: &mut String, name: &str, counts: &[u64], from: usize) -> fmt::Result {
+    write!(out, "{name}")?;
+    for (i, count) in counts.iter().enumerate().skip(from) {
+        let start = if i > from && (i - from).is_multiple_of(10) { "\n   " } else { "" };
+        write!(out, "{start} {i}:{count}")?;
+    }
+    writeln!(out)
+}

@@ -1,0 +1,158 @@
+//! Many runs on several threads, until the first difference.
+use crate::program::Lent;
+use crate::same::{compare, Difference};
+use crate::shown::{oracle_text, program_text};
+use crate::shrink::shrunk;
+use crate::tally::Tally;
+use generator::Case;
+use oracle::{play, Options, Ran, Slices};
+use std::fmt::Write;
+use std::sync::atomic::{AtomicBool, AtomicU64, Ordering};
+use std::sync::Mutex;
+
+/// Where runs come from: a place has one or more.
+pub enum Source {
+    Seeded(u64),
+    Swept(u64),
+    Listed(Vec<Case>),
+}
+
+pub struct Asked {
+    pub source: Source,
+    pub first: u64,
+    pub count: u64,
+    /// Every run in a table of 50,000 rows, with the highest nesting limit.
+    pub full: bool,
+    pub work: u64,
+    pub threads: usize,
+}
+
+/// A difference, the run that shows it and its place.
+pub struct Found {
+    pub place: u64,
+    pub case: Case,
+    pub difference: Difference,
+}
+
+/// 50,000 rows, 16,384 cells, 16,384 answers.
+const FULL: [u32; 3] = [50_000 * 24, 16_384 * 8, 16_384 * 4];
+/// As large as the oracle's: 4,096 nested functions and deep terms have room.
+const STACK: usize = 512 << 20;
+/// How many places a thread takes at a time.
+const STEP: u64 = 16;
+
+impl Asked {
+    fn cases(&self, place: u64) -> Vec<Case> {
+        let mut cases = match &self.source {
+            Source::Seeded(seed) => vec![generator::case(*seed, place)],
+            Source::Swept(seed) => generator::sweep(*seed, place).collect(),
+            Source::Listed(cases) => vec![cases[place as usize].clone()],
+        };
+        if self.full {
+            cases.iter_mut().for_each(enlarge);
+        }
+        cases
+    }
+
+    pub fn compare(&self) -> (Tally, Option<Found>) {
+        let next = AtomicU64::new(self.first);
+        let stop = AtomicBool::new(false);
+        let total = Mutex::new(Tally::default());
+        let found = Mutex::new(Vec::new());
+        std::thread::scope(|scope| {
+            for _ in 0..self.threads {
+                let thread = std::thread::Builder::new().stack_size(STACK);
+                let work = || {
+                    let mut side = Sides::new(self.work);
+                    let some = self.work_off(&mut side, &next, &stop);
+                    total.lock().unwrap().join(&side.tally);
+                    found.lock().unwrap().extend(some);
+                };
+                thread.spawn_scoped(scope, work).expect("no thread could be started");
+            }
+        });
+        let mut found = found.into_inner().unwrap();
+        found.sort_by_key(|found: &Found| found.place);
+        (total.into_inner().unwrap(), found.into_iter().next())
+    }
+
+    fn work_off(&self, side: &mut Sides, next: &AtomicU64, stop: &AtomicBool) -> Option<Found> {
+        let last = self.first + self.count;
+        while !stop.load(Ordering::Relaxed) {
+            let from = next.fetch_add(STEP, Ordering::Relaxed);
+            if from >= last {
+                return None;
+            }
+            for place in from..last.min(from + STEP) {
+                let slow = side.tally.slow;
+                for case in self.cases(place) {
+                    if let Err(difference) = side.compare(&case) {
+                        stop.store(true, Ordering::Relaxed);
+                        return Some(Found { place, case, difference });
+                    }
+                }
+                if side.tally.slow > slow {
+                    side.tally.slow_places.push(place);
+                }
+            }
+        }
+        None
+    }
+}
+
+fn enlarge(case: &mut Case) {
+    case.slices = [0, 1, 2].map(|i| case.slices[i].max(FULL[i]));
+    if case.bytes.len() >= 2 {
+        case.bytes[..2].copy_from_slice(&4096_u16.to_le_bytes());
+    }
+}
+
+/// Both sides, with what they met.
+pub struct Sides {
+    lent: Lent,
+    options: Options,
+    pub tally: Tally,
+}
+
+impl Sides {
+    pub fn new(work: u64) -> Self {
+        let options = Options { work, ..Options::default() };
+        Self { lent: Lent::default(), options, tally: Tally::default() }
+    }
+
+    pub fn oracle(&self, case: &Case) -> Option<Ran> {
+        let [rows, cells, answers] = case.slices;
+        play(&case.bytes, Slices { rows, cells, answers }, &self.options)
+    }
+
+    pub fn compare(&mut self, case: &Case) -> Result<(), Difference> {
+        let Some(ran) = self.oracle(case) else {
+            self.tally.slow += 1;
+            return Ok(());
+        };
+        self.lent.play(&case.bytes, case.slices, |left| compare(left, &ran))?;
+        self.tally.add(case.slices, &ran);
+        Ok(())
+    }
+
+    /// The smallest run found that shows a difference, with both sides' texts.
+    pub fn explain(&mut self, found: Found) -> String {
+        let case = shrunk(found.case.clone(), &mut |case| self.compare(case).is_err());
+        let difference = self.compare(&case).expect_err("the shrunk run shows no difference");
+        let ran = self.oracle(&case).unwrap();
+        let texts = self
+            .lent
+            .play(&case.bytes, case.slices, |left| [program_text(left, &ran), oracle_text(&ran)]);
+        let mut out = String::new();
+        writeln!(out, "DIFFERENCE at place {}: {}", found.place, found.difference).unwrap();
+        writeln!(out, "smallest run: {difference}").unwrap();
+        writeln!(out, "slices {:?}", case.slices).unwrap();
+        let hex: String = case.bytes.iter().map(|byte| format!("{byte:02x}")).collect();
+        let bytes: Vec<String> = case.bytes.iter().map(u8::to_string).collect();
+        writeln!(out, "hex {hex}\nbytes {}", bytes.join(" ")).unwrap();
+        for (name, text) in ["the program:", "the oracle:"].iter().zip(texts) {
+            writeln!(out, "{name}\n{text}").unwrap();
+        }
+        out
+    }
+}
