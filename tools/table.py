@@ -5,7 +5,6 @@ UNFOLD = {
     'call': 'called-in',
     'step': 'turned-by',
     'play-run': 'run-by read-run',
-    'run-derivations': 'with-result',
     'emit': 'known-row known-or new-row add-row',
     'intern': 'known-or new-cell add-cell',
     'remember': 'remembered-or new-memory add-cell replace',
