@@ -1,5 +1,5 @@
 -- Laws of the definitions, by which the functions' proofs go. Assumes nothing.
-use mathlib.Core.Path.{_≡_, refl, sym, ap, _∙_, fun-ext}
+use mathlib.Core.Path.{_≡_, refl, sym, ap, _∙_}
 use mathlib.Core.Bool.{Bool, true, false}
 use mathlib.Core.List.{List, [], _∷_, _++_}
 use Prim.Native.Nat.{ℕ, zero, suc, _+_, _-_, _/_, _<_, _≤_}
@@ -10,7 +10,7 @@ use native.Mathlib.Omega.{arith}
 use borrow.Author.Tests.{lt-ltb, le-ltb, eq-eqb, ne-eqb}
 use lib.Dec.{ltb, eqb}
 use lib.ListN.{length, getD}
-use Rattle.text.specs.Text.{Text, each, digit, digits, decimal, row-word, argument, part-as, node-as, node, lower, quote-within, quote, reference, some-refs}
+use Rattle.text.specs.Text.{Text, each, digit, digits, decimal, row-word, argument, part-as, node-as, reference, some-refs}
 use Rattle.text.specs.Listing.{call-line, row-line, totals, refused-listing, read-listing}
 use Rattle.text.specs.declared.RunAnswer.{RunAnswer}
 use Rattle.rules.specs.Names.{bytes, node-name}
@@ -128,34 +128,6 @@ node-atom q C i kind h = rw (eq-eqb _ _ h, node-as)
 pub node-parts : (q : ℕ → Text) (C : List ℕ) (i kind : ℕ) → (part-of kind 0 .sort ≡ 0 → ⊥) → node-as q C i kind ≡ bytes "(" ++ node-name kind ++ part-as q C i kind 0 ++ part-as q C i kind 1 ++ part-as q C i kind 2 ++ bytes ")"
 unfolding node-as
 node-parts q C i kind h = rw (ne-eqb _ _ h, node-as)
-
--- quotes
-
-pub lower-yes : (i j : ℕ) (f : ℕ → Text) → j < i → lower i f j ≡ f j
-unfolding lower
-lower-yes i j f h = rw (lt-ltb _ _ h, lower)
-
-pub lower-no : (i j : ℕ) (f : ℕ → Text) → i ≤ j → lower i f j ≡ []
-unfolding lower
-lower-no i j f h = rw (le-ltb _ _ h, lower)
-
-lower-same : (i : ℕ) (f g : ℕ → Text) → ((j : ℕ) → j < i → f j ≡ g j) → (j : ℕ) → lower i f j ≡ lower i g j
-lower-same i f g e j = elim (decLt j i) [
-  | yes h ↦ lower-yes i j f h ∙ e j h ∙ sym (lower-yes i j g h)
-  | no h ↦ (let l : i ≤ j = omega arith in lower-no i j f l ∙ sym (lower-no i j g l))
-]
-
-quote-enough : (C : List ℕ) (k m i : ℕ) → i < k → i < m → quote-within k C i ≡ quote-within m C i
-unfolding quote-within
-quote-enough C zero m i h l = absurd (let z : ⊥ = omega arith in z)
-quote-enough C (suc k) zero i h l = absurd (let z : ⊥ = omega arith in z)
-quote-enough C (suc k) (suc m) i h l =
-    ap (λ f. node f C i) (fun-ext (lower-same i (quote-within k C) (quote-within m C) (λ j g. quote-enough C k m j (omega arith) (omega arith))))
-
--- A cell's quote by those of its parts.
-pub quote-node : (C : List ℕ) (i : ℕ) → quote C i ≡ node (lower i (quote C)) C i
-unfolding quote-within quote
-quote-node C i = ap (λ f. node f C i) (fun-ext (lower-same i (quote-within i C) (quote C) (λ j g. quote-enough C i (suc j) j g (omega arith))))
 
 -- cited rows
 

@@ -1,6 +1,3 @@
--- What the proofs of several functions use; what a window shows; that the words' texts and repeats are those of what they hold.
+-- What the proofs of several functions use, and what a window shows.
 pub mod Laws
 pub mod Shown
-pub mod Agrees
-pub mod Repeated
-mod Counting

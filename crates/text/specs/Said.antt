@@ -1,5 +1,5 @@
 -- The same texts over the walk's own data: intervals, quotes, contexts, judgments and rows, with no words. What it is that words hold
--- them. That the two agree is in the proofs' Agrees. Assumes nothing.
+-- them. That the two agree is in Agrees, and of repeats in Repeated. Assumes nothing.
 use Prim.Native.Nat.{ℕ, suc, _+_, _<_, _≤_}
 use Prim.Native.String.{String}
 use mathlib.Core.Path.{_≡_}

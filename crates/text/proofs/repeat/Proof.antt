@@ -4,7 +4,7 @@ use Prim.Native.Nat.{_≤_}
 use native.Mathlib.Omega.{arith}
 use borrow.Author.Needs.{needs}
 use Rattle.text.specs.Repeats.{call, occurs, before}
-use Rattle.text.proofs.Counting.{repeat-yes, repeat-no, hit-down, miss-down, none-left}
+use Rattle.text.specs.Counting.{repeat-yes, repeat-no, hit-down, miss-down, none-left}
 use Rattle.text.proofs.repeat.Statement.{statement}
 use Rattle.text.proofs.repeat.Tie as tie
 

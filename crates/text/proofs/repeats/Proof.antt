@@ -5,7 +5,7 @@ use native.Mathlib.Omega.{arith}
 use borrow.Author.Needs.{needs}
 use native.Mathlib.Nat.{zero-add}
 use Rattle.text.specs.Repeats.{repeats}
-use Rattle.text.proofs.Counting.{repeat-most, rest, rest-start, rest-turn, rest-end}
+use Rattle.text.specs.Counting.{repeat-most, rest, rest-start, rest-turn, rest-end}
 use Rattle.text.proofs.repeats.Statement.{statement}
 use Rattle.text.proofs.repeats.Tie as tie
 

@@ -2,7 +2,8 @@
 use Prim.Native.Nat.{ℕ}
 use native.Mathlib.Omega.{arith}
 use borrow.Author.Needs.{needs}
-use Rattle.text.proofs.Laws.{wrote-nil, wrote-cons, argument-absent, argument-number, argument-quote, lower-yes, lower-no}
+use Rattle.text.proofs.Laws.{wrote-nil, wrote-cons, argument-absent, argument-number, argument-quote}
+use Rattle.text.specs.Quoted.{lower-yes, lower-no}
 use Rattle.rules.proofs.part_sort.Reads as part-sort-reads
 use Rattle.rules.proofs.part_word.Reads as part-word-reads
 use Rattle.text.proofs.Pen.number.Reads as number-reads

@@ -3,7 +3,8 @@ use Prim.Native.Nat.{ℕ}
 use mathlib.Core.Path.{sym, _∙_}
 use native.Mathlib.Omega.{arith}
 use borrow.Author.Needs.{needs}
-use Rattle.text.proofs.Laws.{wrote-nil, wrote-cons, wrote-append, wrote-full, node-atom, node-parts, quote-node}
+use Rattle.text.proofs.Laws.{wrote-nil, wrote-cons, wrote-append, wrote-full, node-atom, node-parts}
+use Rattle.text.specs.Quoted.{quote-node}
 use Rattle.rules.proofs.part_sort.Reads as part-sort-reads
 use Rattle.text.proofs.Pen.name.Reads as name-reads
 use Rattle.text.proofs.Pen.put.Reads as put-reads

@@ -1,5 +1,4 @@
--- Words that hold a quote, an argument or a judgment have its text.
--- Assumes nothing.
+-- Words that hold a quote, an argument, a judgment, a row or a call have its text. Assumes nothing.
 use mathlib.Core.Path.{_≡_, refl, sym, ap, _∙_}
 use mathlib.Core.List.{List, [], _∷_, _++_, append-assoc, append-nil}
 use Prim.Native.Nat.{ℕ, zero, suc, _+_, min}
@@ -18,7 +17,7 @@ use Rattle.walk.specs.Run.{Result, Answer}
 use lib.Dec.{eqb·suc-zero}
 use Rattle.text.specs.Repeats.{answer-word, code}
 use Rattle.text.specs.Said.{spaced, all-texts, interval-text, quote-text, context-text, argument-text, judgment-text, Part-in, Interval-cell, Quote-cell, Context-cell, Argument-word, word-number, word-term, word-interval, word-context, Arguments-in, no-more, and-then, commas, refs-text, row-text, code-number, result-text, accepted-row, call-text, Result-in, of-context, of-universe, of-infer, of-check, of-normalise, of-equal, Ended, accepted, refused, Call-in, Refs-in, no-refs, and-ref, Row-in, cell-0, cell-1, cell-dim, cell-neg, cell-meet, cell-join, cell-u, cell-v, cell-nat, cell-zero, cell-pi, cell-lam, cell-app, cell-path, cell-plam, cell-papp, cell-nil, cell-cons}
-use Rattle.text.proofs.Laws.{lower-yes, quote-node}
+use Rattle.text.specs.Quoted.{lower-yes, quote-node}
 
 -- Absent parts leave nothing before the end.
 close-1 : (s : Text) → s ++ [] ++ bytes ")" ≡ s ++ bytes ")"

@@ -11,7 +11,7 @@ use Rattle.walk.specs.Reader.{Call, Code, Code-discrete, codes, c-context, c-un
 use Rattle.walk.specs.Run as R
 use Rattle.text.specs.Repeats.{Accepted, answer-word, code, call, with-call, accepted, same, occurs, repeats-after, repeats}
 use Rattle.text.specs.Said.{code-number, Call-in, Calls-in, no-calls, and-call}
-use Rattle.text.proofs.Counting.{with-yes, with-no, occurs-yes, occurs-no}
+use Rattle.text.specs.Counting.{with-yes, with-no, occurs-yes, occurs-no}
 
 abbrev words : R.Accepted → Accepted
 words (R.accept c row) = call (code-number c) row

@@ -1,0 +1,110 @@
+-- A row's words, as the contract has them, hold the row, so the rows' lines are those of the table. Assumes nothing.
+use Prim.Native.Nat.{ℕ, zero, suc, _+_, _<_, _≤_}
+use mathlib.Core.Path.{_≡_, refl, ap, sym, _∙_, subst}
+use mathlib.Core.List.{List, [], _∷_, _++_, map, append-assoc, append-nil}
+use native.Mathlib.Omega.{arith}
+use native.Mathlib.Nat.{add-zero, zero-add}
+use lib.Dec.{lit≤}
+use lib.ListN.{length, getD}
+use Rattle.walk.specs.Judgment.{Judgment, ctx, dshiftctx, lookup, lt, le, max, interval, ishift, isubst, shift, subst as substitute, dshift, dsubst, has, eq}
+use Rattle.walk.specs.State.{Row}
+use Rattle.walk.specs.Demand.{Row-at, newest, older, Cites, none-cited, _also_, Derivation-order}
+use Rattle.rules.specs.Concludes.{Argument, a-number, a-term, an-interval, a-context, arguments, concludes}
+use Rattle.link.specs.Table.{interval-at, quote-at, context-at, Stands-for, Row-words}
+use Rattle.link.specs.Table as L
+use Rattle.link.specs.Concludes.{few-premises}
+use Rattle.text.specs.Text.{Text, each, row-word}
+use Rattle.text.specs.Listing.{row-line}
+use Rattle.text.specs.Said.{Argument-word, word-number, word-term, word-interval, word-context, Arguments-in, no-more, and-then, Refs-in, no-refs, and-ref, Row-in, row-text}
+use Rattle.text.specs.Agrees.{row-said}
+use Rattle.listed.specs.Cells.{lowered, interval-cell, quote-cell, context-cell}
+use Rattle.listed.specs.Listed.{row-lines}
+
+pub next : (k m : ℕ) → k + suc m ≡ suc k + m
+next k m = omega arith
+
+-- arguments, as `link` names them and as `rules` does
+
+abbrev same : L.Argument → Argument
+same (L.number m) = a-number m
+same (L.of-interval r) = an-interval r
+same (L.of-quote t) = a-term t
+same (L.of-context g) = a-context g
+
+alike : (j : Judgment) → (map same (L.arguments j) ≡ arguments j) × (length (L.arguments j) ≤ 5)
+alike (ctx d g) = (refl, lit≤ tt)
+alike (dshiftctx g k h) = (refl, lit≤ tt)
+alike (lookup g n t) = (refl, lit≤ tt)
+alike (lt m n) = (refl, lit≤ tt)
+alike (le m n) = (refl, lit≤ tt)
+alike (max m n k) = (refl, lit≤ tt)
+alike (interval d r) = (refl, lit≤ tt)
+alike (ishift r k q) = (refl, lit≤ tt)
+alike (isubst r k q p) = (refl, lit≤ tt)
+alike (shift t k r) = (refl, lit≤ tt)
+alike (substitute t k r p) = (refl, lit≤ tt)
+alike (dshift t k r) = (refl, lit≤ tt)
+alike (dsubst t k r p) = (refl, lit≤ tt)
+alike (has d g t a) = (refl, lit≤ tt)
+alike (eq d g a b t) = (refl, lit≤ tt)
+
+stands : (n : ℕ) (C : List ℕ) (w : ℕ) (a : L.Argument) → Stands-for n C w a → Argument-word C w (same a)
+stands n C w (L.number m) e = rw e word-number
+stands n C w (L.of-interval r) e = word-interval (interval-cell n C w r (lowered n (interval-at n C) w e .is))
+stands n C w (L.of-quote t) e = word-term (quote-cell n C w t (lowered n (quote-at n C) w e .is))
+stands n C w (L.of-context g) e = word-context (context-cell n C w g (lowered n (context-at n C) w e .is))
+
+-- a row that cites has as many premises
+
+cited-many : {rows : List Row} {refs : List ℕ} {js : List Judgment} → Cites rows refs js → length refs ≡ length js
+cited-many none-cited = refl
+cited-many (at also c) = ap suc (cited-many c)
+
+few-refs : {rows : List Row} → Derivation-order rows → (i : ℕ) (r : Row) → Row-at i r rows → length (r .refs) ≤ 10
+few-refs o i r at = let f = o .follows i r at in rw (cited-many (f .cited)) (few-premises (f .follows))
+
+module _ (n : ℕ) (R C : List ℕ) (i : ℕ) where
+  -- place k and those after it
+  arguments-in : (k : ℕ) (as′ : List L.Argument) → ((m : ℕ) → m < length as′ → Stands-for n C (row-word R i (13 + (k + m))) (getD as′ m (L.number 0))) → Arguments-in R C i k (map same as′)
+  arguments-in k [] h = no-more
+  arguments-in k (a ∷ as′) h =
+      and-then (stands n C _ a (subst (λ (p : ℕ). Stands-for n C (row-word R i (13 + p)) a) (add-zero k) (h 0 (omega arith))))
+      (arguments-in (suc k) as′ (λ m l. subst (λ (p : ℕ). Stands-for n C (row-word R i (13 + p)) (getD as′ m (L.number 0))) (next k m) (h (suc m) (omega arith))))
+
+  refs-in : (k : ℕ) (refs : List ℕ) → ((m : ℕ) → m < length refs → row-word R i (2 + (k + m)) ≡ getD refs m 0) → Refs-in R i k refs
+  refs-in k [] h = no-refs
+  refs-in k (x ∷ refs) h =
+      and-ref (subst (λ (p : ℕ). row-word R i (2 + p) ≡ x) (add-zero k) (h 0 (omega arith)))
+      (refs-in (suc k) refs (λ m l. subst (λ (p : ℕ). row-word R i (2 + p) ≡ getD refs m 0) (next k m) (h (suc m) (omega arith))))
+
+  row-in : (r : Row) → length (r .refs) ≤ 10 → Row-words n R C i r → Row-in R C i r
+  row-in r few h =
+      let (same-ones, five) = alike (r .judgment) in
+      record {
+        rule = h .rule;
+        count = h .cited;
+        few = few;
+        refs = refs-in 0 (r .refs) (λ m l. rw zero-add (h .places m (omega arith)));
+        arguments = rw (← same-ones) (arguments-in 0 (L.arguments (r .judgment)) (λ m l. rw zero-add (h .judgment m (omega arith))));
+      }
+
+  row-is : {rows : List Row} → Derivation-order rows → (r : Row) → Row-at i r rows → Row-words n R C i r → row-line R C i ≡ row-text i r
+  row-is o r at h = row-said r (row-in r (few-refs o i r at) h) (concludes (o .follows i r at .follows))
+
+-- all rows, the oldest first
+
+each-last : (f : ℕ → Text) (k n : ℕ) → each f k (suc n) ≡ each f k n ++ f (k + n)
+unfolding each
+each-last f k zero = append-nil (f k) ∙ ap f (sym (add-zero k))
+each-last f k (suc n) = ap (λ (t : Text). f k ++ t) (each-last f (suc k) n) ∙ sym (append-assoc (f k) (each f (suc k) n) (f (suc k + n))) ∙ ap (λ (m : ℕ). f k ++ each f (suc k) n ++ f m) (sym (next k n))
+
+lines : (f : ℕ → Text) (rows : List Row) → ((i : ℕ) (r : Row) → Row-at i r rows → f i ≡ row-text i r) → each f 0 (length rows) ≡ row-lines rows
+unfolding each row-lines
+lines f [] h = refl
+lines f (r ∷ rows) h =
+    each-last f 0 (length rows) ∙
+    ap (λ (t : Text). t ++ f (0 + length rows)) (lines f rows (λ i r at. h i r (older at))) ∙
+    ap (λ (t : Text). row-lines rows ++ t) (ap f (zero-add (length rows)) ∙ h (length rows) r (newest refl))
+
+pub rows-said : (n : ℕ) (R C : List ℕ) (rows : List Row) → Derivation-order rows → ((i : ℕ) (r : Row) → Row-at i r rows → Row-words n R C i r) → each (row-line R C) 0 (length rows) ≡ row-lines rows
+rows-said n R C rows o h = lines (row-line R C) rows (λ i r at. row-is n R C i o r at (h i r at))
