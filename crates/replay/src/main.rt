@@ -2,8 +2,7 @@
 // and that no word past the used ones changed. How a stored run is laid out: tools/compare/src/vectors.rs.
 ghost use Prim.Native.Nat.{_<_};
 use libc::STDOUT_FILENO;
-use syntax::Next;
-use syntax::skip_call;
+use syntax::call_codes;
 use text::Piece;
 use text::RunAnswer;
 
@@ -88,31 +87,6 @@ fn apart(a: &[u8; 16384], b: &[u8; 16384], size: usize) -> usize {
         i += 1;
     }
     i
-}
-
-// Stores the code of the call at `at`.
-fn put_code(codes: &mut [u8], i: usize, bytes: &[u8], at: usize) {
-    if i < codes.len() {
-        if at < bytes.len() {
-            codes[i] = bytes[at];
-        }
-    }
-}
-
-// Each call's code.
-fn codes_of(bytes: &[u8], calls: u32, codes: &mut [u8], stack: &mut [u8]) {
-    let mut at: usize = 2;
-    let mut i: usize = 0;
-    let most = calls as usize;
-    while i < most {
-        put_code(codes, i, bytes, at);
-        let next = skip_call(bytes, at, stack);
-        let Next::Past(past) = next else {
-            return;
-        };
-        at = past;
-        i += 1;
-    }
 }
 
 // The text from `from` on, at most the buffer's length of it; how many bytes came.
@@ -286,10 +260,9 @@ fn hold(
     cells: &mut [u32],
     answers: &mut [u32],
     codes: &mut [u8],
-    stack: &mut [u8],
 ) -> u32 {
     let run = play(bytes, rows, cells, answers);
-    codes_of(bytes, run.calls, codes, stack);
+    call_codes(bytes, codes);
     judge(run, total, codes, answers, rows, cells)
 }
 
@@ -301,7 +274,6 @@ fn lend(
     cells: &mut [u32],
     answers: &mut [u32],
     codes: &mut [u8],
-    stack: &mut [u8],
 ) -> u32 {
     let r = word(head, 28);
     let c = word(head, 32);
@@ -327,7 +299,6 @@ fn lend(
         &mut cells[..c],
         &mut answers[..a],
         codes,
-        stack,
     )
 }
 
@@ -339,12 +310,11 @@ fn turn(
     cells: &mut [u32; 32768],
     answers: &mut [u32; 16384],
     codes: &mut [u8; 4096],
-    stack: &mut [u8; 131073],
 ) -> u32 {
     fill(rows);
     fill(cells);
     fill(answers);
-    lend(head, bytes, rows, cells, answers, codes, stack)
+    lend(head, bytes, rows, cells, answers, codes)
 }
 
 // The stored bytes of a run, and zeros after them.
@@ -409,7 +379,6 @@ fn main() {
     let mut cells = [0u32; 32768];
     let mut answers = [0u32; 16384];
     let mut codes = [0u8; 4096];
-    let mut stack = [0u8; 131073];
     let mut t = Tally {
         runs: 0,
         calls: 0,
@@ -427,7 +396,6 @@ fn main() {
                 &mut cells,
                 &mut answers,
                 &mut codes,
-                &mut stack,
             );
             t = counted(t, calls);
             i += 1;

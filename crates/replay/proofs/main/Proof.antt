@@ -5,11 +5,11 @@ use Rattle.replay.proofs.main.Statement.{statement}
 use Rattle.replay.proofs.main.Tie as tie
 
 abbrev Inv-loop : tie.InvT-loop
-Inv-loop head₀ bytes₀ rows₀ cells₀ answers₀ codes₀ stack₀ t₀ i₀ head bytes rows cells answers codes stack t i =
+Inv-loop head₀ bytes₀ rows₀ cells₀ answers₀ codes₀ t₀ i₀ head bytes rows cells answers codes t i =
     Unit {0}
 
 abbrev μ-loop : tie.MeasureT-loop
-μ-loop head₀ bytes₀ rows₀ cells₀ answers₀ codes₀ stack₀ t₀ i₀ head bytes rows cells answers codes stack t i =
+μ-loop head₀ bytes₀ rows₀ cells₀ answers₀ codes₀ t₀ i₀ head bytes rows cells answers codes t i =
     100000 - i
 
 loop-holds : tie.Need-loop-holds Inv-loop μ-loop
