@@ -1,15 +1,18 @@
 //! Times of the program and of the source on the same runs, each side in a
-//! process of its own that plays its runs again and again.
+//! process of its own that plays its runs again and again. What is measured is
+//! the processor time of the thread that plays, so that other work on the machine
+//! counts as little as it can.
 use crate::program;
+use crate::work::Sides;
 use generator::Case;
 use oracle::{play, Options, Slices};
 use std::io::{Error, Result};
 use std::process::Command;
-use std::time::Instant;
+use std::time::Duration;
 
 /// The kinds of runs, and how often each is played in one measurement.
 pub const KINDS: &[(&str, &str, u64)] = &[
-    ("small", "65,534 bytes of small calls", 2),
+    ("small", "65,532 bytes of small calls", 2),
     ("rows", "a run that fills 50,000 rows", 1),
     ("deep", "deep nesting", 20),
     ("intervals", "long intervals", 20),
@@ -17,25 +20,37 @@ pub const KINDS: &[(&str, &str, u64)] = &[
     ("converted", "converted arguments", 20),
 ];
 
+extern "C" {
+    fn clock_gettime(clock: i32, time: *mut [i64; 2]) -> i32;
+}
+
+/// The processor time of this thread so far (CLOCK_THREAD_CPUTIME_ID on Linux).
+fn now() -> Duration {
+    let mut time = [0; 2];
+    // SAFETY: the pointer is to a timespec of a 64-bit Linux: two words.
+    assert_eq!(unsafe { clock_gettime(3, &mut time) }, 0);
+    Duration::new(time[0] as u64, time[1] as u32)
+}
+
 /// One side's time of one measurement, in nanoseconds.
 fn once(side: &str, case: &Case, times: u64) -> u128 {
     let [rows, cells, answers] = case.slices;
     if side == "program" {
         let mut words = [rows, cells, answers].map(|n| vec![0; n as usize]);
         let [rows, cells, answers] = &mut words;
-        let start = Instant::now();
+        let start = now();
         for _ in 0..times {
             program::play(&case.bytes, rows, cells, answers, &mut [0; 5]);
         }
-        return start.elapsed().as_nanos();
+        return (now() - start).as_nanos();
     }
     // The source as it is: no cell is counted.
     let options = Options { counting: side == "counted", ..Options::default() };
-    let start = Instant::now();
+    let start = now();
     for _ in 0..times {
         assert!(play(&case.bytes, Slices { rows, cells, answers }, &options).is_some());
     }
-    start.elapsed().as_nanos()
+    (now() - start).as_nanos()
 }
 
 /// What a process of its own does: it prints the nanoseconds of one play.
@@ -57,13 +72,27 @@ fn spread(mut all: Vec<f64>) -> [f64; 3] {
     [all[0], all[all.len() / 2], all[all.len() - 1]].map(|ns| ns / 1e6)
 }
 
+/// How large a run is. Both sides must agree on it before they are timed.
+fn sizes(kind: &str) -> Result<String> {
+    let case = generator::bench(kind).ok_or_else(|| Error::other(kind.to_owned()))?;
+    oracle::on_large_stack(|| {
+        let mut sides = Sides::new(u64::MAX);
+        sides.compare(&case).map_err(Error::other)?;
+        let met = sides.tally;
+        Ok(format!("{}, {}, {}, {}", met.calls, met.rows, met.cells, met.deepest))
+    })
+}
+
 pub fn table(kinds: &[&str], repeats: usize) -> Result<()> {
-    println!("milliseconds a run: least, middle, most of {repeats} processes each");
-    println!("kind | program | Rust | ratio of the middle ones");
+    println!(
+        "milliseconds of processor time a run: least, middle, most of {repeats} processes each"
+    );
+    println!("kind | calls, rows, cells, deepest | program | Rust | ratio of the middle ones");
     for (kind, said, times) in KINDS {
         if !kinds.is_empty() && !kinds.contains(kind) {
             continue;
         }
+        let size = sizes(kind)?;
         let mut sides = [Vec::new(), Vec::new()];
         // In turn, so that both sides meet the machine's other work alike.
         for _ in 0..repeats {
@@ -72,7 +101,8 @@ pub fn table(kinds: &[&str], repeats: usize) -> Result<()> {
         }
         let [ours, theirs] = sides.map(spread);
         let show = |[a, b, c]: [f64; 3]| format!("{a:.3} {b:.3} {c:.3}");
-        println!("{said} | {} | {} | {:.2}", show(ours), show(theirs), ours[1] / theirs[1]);
+        let ratio = ours[1] / theirs[1];
+        println!("{said} | {size} | {} | {} | {ratio:.2}", show(ours), show(theirs));
     }
     Ok(())
 }

@@ -21,6 +21,8 @@ pub struct Tally {
     pub calls: u64,
     pub rows: u64,
     pub cells: u64,
+    /// The deepest of all calls.
+    pub deepest: u32,
     /// By number: 0 accepted, 1 to 4 runs, the rest calls.
     pub numbers: [u64; NUMBERS],
     pub rules: [u64; rules::NAMES.len()],
@@ -38,6 +40,7 @@ impl Default for Tally {
             calls: 0,
             rows: 0,
             cells: 0,
+            deepest: 0,
             numbers: [0; NUMBERS],
             rules: [0; rules::NAMES.len()],
         }
@@ -52,6 +55,7 @@ impl Tally {
         self.cells += u64::from(ran.cells);
         for answer in &ran.answers {
             self.numbers[usize::from(answer.number)] += 1;
+            self.deepest = self.deepest.max(answer.deepest);
         }
         for row in &ran.rows {
             self.rules[rules::number(&row.rule)] += 1;
@@ -81,6 +85,7 @@ impl Tally {
         self.calls += other.calls;
         self.rows += other.rows;
         self.cells += other.cells;
+        self.deepest = self.deepest.max(other.deepest);
         for (sum, count) in self.numbers.iter_mut().zip(other.numbers) {
             *sum += count;
         }
@@ -106,7 +111,7 @@ impl Tally {
         let places = &self.slow_places;
         writeln!(out, "runs left out, too slow for the oracle {} at {places:?}", self.slow)?;
         writeln!(out, "calls {} accepted {}", self.calls, self.numbers[0])?;
-        writeln!(out, "rows {} cells {}", self.rows, self.cells)?;
+        writeln!(out, "rows {} cells {} deepest {}", self.rows, self.cells, self.deepest)?;
         line(out, "refusals", &self.numbers, 1)?;
         line(out, "rules", &self.rules, 0)?;
         let (numbers, rules) = self.missing();
