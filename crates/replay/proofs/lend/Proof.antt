@@ -67,9 +67,6 @@ same-length-3 c = search needs
 same-length-4 : tie.Need-same-length-4
 same-length-4 c = search needs
 
-same-length-5 : tie.Need-same-length-5
-same-length-5 c = search needs
-
 returns-5 : tie.Need-returns-5
 returns-5 c = search needs
 
@@ -98,5 +95,4 @@ lend-spec =
     same-length-2
     same-length-3
     same-length-4
-    same-length-5
     returns-5)
