@@ -1,5 +1,5 @@
 #!/bin/sh
-# The comparison at scale: some 1,300,000 runs. Each part ends with `no difference`,
+# The comparison at scale: some 1,500,000 runs. Each part ends with `no difference`,
 # or the first one stops it.
 set -eu
 compare=${COMPARE:-$(cd "$(dirname "$0")/../.." && pwd)/target/compare/release/compare}
@@ -9,6 +9,6 @@ part() {
 }
 part seeds --work 2000000000
 part 2026 600000
-part 2027 200000 --full
+part 2027 400000 --full
 part sweep 2028 2000
 part short 4
