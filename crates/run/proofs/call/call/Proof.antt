@@ -1,6 +1,6 @@
 -- Made by tools/prove.py: to make it again, run `python3 tools/prove.py run`.
 use Rattle.run.proofs.Steps.{steps}
-use Rattle.run.specs.Call.{called, called-in}
+use Rattle.run.specs.Call.{called-in, called}
 use borrow.Author.Needs.{needs}
 use Rattle.run.proofs.call.call.Statement.{statement}
 use Rattle.run.proofs.call.call.Tie as tie
@@ -45,7 +45,7 @@ same-length-2 : tie.Need-same-length-2
 same-length-2 c = search needs
 
 returns : tie.Need-returns
-unfolding called called-in steps
+unfolding called steps called-in
 returns c = rw (← c .before .before .before .before .before .before .before .before .before .before .before .before .before .before .before .before .before .before .before .before .byte .ensures, ← c .before .before .before .before .before .before .before .before .before .before .before .before .before .before .before .before .before .before .before .succ .ensures, ← c .before .before .before .before .before .before .before .before .before .before .before .before .before .before .before .before .before .before .byte2 .ensures, ← c .before .before .before .before .before .before .before .before .before .before .before .before .before .before .before .before .before .succ2 .ensures, ← c .before .before .before .before .before .before .before .before .before .before .before .before .before .before .before .before .byte3 .ensures, ← c .before .before .before .before .before .before .before .before .before .before .before .before .before .before .before .succ3 .ensures)
     (rw (← c .before .before .before .before .before .before .before .before .before .before .before .before .prepare .ensures, c .before .before .before .before .before .before .before .before .s1 .given .1, ← c .before .before .before .before .scope .ensures, c .enum-told .given .1))
 
@@ -62,7 +62,7 @@ same-length-4 : tie.Need-same-length-4
 same-length-4 c = search needs
 
 returns-2 : tie.Need-returns-2
-unfolding called called-in steps
+unfolding called steps called-in
 returns-2 c = rw (← c .before .before .before .before .before .before .before .before .before .before .before .before .before .before .before .before .before .before .before .before .before .before .before .before .before .before .before .before .byte .ensures, ← c .before .before .before .before .before .before .before .before .before .before .before .before .before .before .before .before .before .before .before .before .before .before .before .before .before .before .before .succ .ensures, ← c .before .before .before .before .before .before .before .before .before .before .before .before .before .before .before .before .before .before .before .before .before .before .before .before .before .before .byte2 .ensures, ← c .before .before .before .before .before .before .before .before .before .before .before .before .before .before .before .before .before .before .before .before .before .before .before .before .before .succ2 .ensures, ← c .before .before .before .before .before .before .before .before .before .before .before .before .before .before .before .before .before .before .before .before .before .before .before .before .byte3 .ensures, ← c .before .before .before .before .before .before .before .before .before .before .before .before .before .before .before .before .before .before .before .before .before .before .before .succ3 .ensures)
     (rw (← c .before .before .before .before .before .before .before .before .before .before .before .before .before .before .before .before .before .before .before .before .prepare .ensures, c .before .before .before .before .before .before .before .before .before .before .before .before .before .before .before .before .s1 .given .1, ← c .before .before .before .before .before .before .before .before .before .before .before .before .scope .ensures, c .before .before .before .before .before .before .before .before .q .given .1, ← c .before .before .before .before .enter .ensures))
 
@@ -73,7 +73,7 @@ same-length-6 : tie.Need-same-length-6
 same-length-6 c = search needs
 
 returns-3 : tie.Need-returns-3
-unfolding called called-in steps
+unfolding called steps called-in
 returns-3 c = rw (← c .before .before .before .before .before .before .before .before .before .before .before .before .before .byte .ensures, ← c .before .before .before .before .before .before .before .before .before .before .before .before .succ .ensures, ← c .before .before .before .before .before .before .before .before .before .before .before .byte2 .ensures, ← c .before .before .before .before .before .before .before .before .before .before .succ2 .ensures, ← c .before .before .before .before .before .before .before .before .before .byte3 .ensures, ← c .before .before .before .before .before .before .before .before .succ3 .ensures)
     (rw (← c .before .before .before .before .before .prepare .ensures, c .before .s12 .given .1))
 

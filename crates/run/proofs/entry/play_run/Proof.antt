@@ -2,6 +2,7 @@
 use Rattle.run.specs.Run.{read-run, run-by, run-of}
 use borrow.Author.Needs.{needs}
 use borrow.Author.Tests.{le-ltb, lt-ltb}
+use native.Mathlib.Omega.{arith}
 use Rattle.run.proofs.entry.play_run.Statement.{statement}
 use Rattle.run.proofs.entry.play_run.Tie as tie
 
@@ -55,13 +56,13 @@ unfolding run-of run-by read-run
 returns-4 c = rw (le-ltb _ _ (c .before .before .before .before .before .before .if1 .left), le-ltb _ _ (c .before .before .before .before .before .if2 .left), ← c .before .before .before .before .scan-run .ensures, c .before .before .scanned .given .1, c .no-run3 .ensures)
 
 same-length : tie.Need-same-length
-same-length c = search needs
+same-length c = omega (arith, c .before .before .before .before .before .before .before .play .kept)
 
 same-length-2 : tie.Need-same-length-2
-same-length-2 c = search needs
+same-length-2 c = omega (arith, c .before .before .before .before .before .before .before .play .kept)
 
 same-length-3 : tie.Need-same-length-3
-same-length-3 c = search needs
+same-length-3 c = omega (arith, c .before .before .before .before .before .before .before .play .kept)
 
 returns-5 : tie.Need-returns-5
 unfolding run-of run-by read-run
