@@ -1,7 +1,7 @@
 -- What the exported function promises: where `result` has five words, the run of the definition in the other slices and its numbers
 -- in those words; else nothing at all.
 use Prim.Native.Nat.{ℕ, _<_, _≤_}
-use mathlib.Core.Path.{_≡_, refl, ap}
+use mathlib.Core.Path.{_≡_, refl}
 use mathlib.Core.List.{List, [], _∷_}
 use native.Mathlib.Omega.{arith}
 use lib.ListN.{length}

@@ -23,7 +23,7 @@ use Rattle.text.specs.Said.{Quote-cell, code-number, Result-in, of-context, of-
 use Rattle.text.specs.Said as S
 use Rattle.text.specs.Agrees.{call-said}
 use Rattle.listed.specs.Listed.{call-lines}
-use Rattle.listed.specs.Kinds.{no-some}
+use Rattle.syntax.specs.Kinds.{no-some}
 use Rattle.listed.specs.Cells.{lowered, quote-cell}
 use Rattle.listed.specs.Rows.{next}
 

@@ -32,8 +32,10 @@ pub record Derived (bytes rows cells answers : List ℕ) (r : Ran) (rows′ cell
   pub distinct : Distinct table
   -- every accepted call's row states that call's judgment
   pub stated : All-stated table (walked bytes rows cells answers .calls) (walked bytes rows cells answers .answers)
-  -- the same of the table cut after any row, which derives every judgment left in it
+  -- the same of the table cut after any row: it derives every judgment left in it, and what rows 0 to n state is left
   pub cut-order : (n : ℕ) → Derivation-order (cut n table)
+  pub cut-distinct : (n : ℕ) → Distinct (cut n table)
+  pub cut-states : (n m : ℕ) (j : Judgment) → m ≤ n → At m j table → At m j (cut n table)
   pub cut-derives : (n m : ℕ) (j : Judgment) → At m j (cut n table) → Derives (cut n table) j
   -- the table that the first calls leave stays, whatever the others are
   pub grows : (first others : List Call) → walked bytes rows cells answers .calls ≡ first ++ others → Extends (play-all first (start (walked bytes rows cells answers .limit) (length rows) (length cells)) .1 .rows) table

@@ -9,3 +9,5 @@ pub mod Fuel
 pub mod Nodes
 -- The codes of a run's calls.
 pub mod Codes
+-- The byte of each kind and code.
+pub mod Kinds

@@ -2,7 +2,6 @@
 use Prim.Native.Nat.{ℕ, zero, suc, _+_, _≤_, _<_}
 use mathlib.Core.Path.{_≡_, refl, sym, ap, _∙_}
 use mathlib.Core.List.{List, [], _∷_}
-use mathlib.Core.Option.{none, some}
 use native.Mathlib.Omega.{arith}
 use lib.ListN.{length, getD, drop}
 use Rattle.ast.specs.Words.{up}
@@ -16,6 +15,7 @@ use Rattle.walk.specs.Run.{scope-of, nth}
 use Rattle.syntax.specs.Told.{term-at, code-number}
 use Rattle.syntax.specs.Calls.{TermsAt, no-terms, next-term, CallAt, CallFits, call-fits, size-terms-first}
 use Rattle.syntax.specs.Fuel.{fit-term}
+use Rattle.syntax.specs.Kinds.{code-is}
 use Rattle.link.specs.Asked.{build-term, build-context, call-ctx, call-universe, call-infer, call-check, call-normalize, call-equal}
 use Rattle.run.specs.Build.{byte-at, made, built, scoped, scoped-body}
 use Rattle.run.specs.Call.{row-alone, row-first, with-sides, with-term, by-code, called-in}
@@ -40,16 +40,6 @@ alone-in m f = then-then m f _
 first-in : {A : Type 0} (m : W A) (f : A → W (ℕ × ℕ)) → row-first (m >>= f) ≡ (m >>= λ a. row-first (f a))
 unfolding row-first
 first-in m f = then-then m f _
-
--- the byte of a code
-code-is : (b : ℕ) (c : Code) → getD codes b none ≡ some c → b ≡ code-number c
-code-is zero c e = let q : c-context ≡ c = cc in rw (← q)
-code-is (suc zero) c e = let q : c-universe ≡ c = cc in rw (← q)
-code-is (suc (suc zero)) c e = let q : c-infer ≡ c = cc in rw (← q)
-code-is (suc (suc (suc zero))) c e = let q : c-check ≡ c = cc in rw (← q)
-code-is (suc (suc (suc (suc zero)))) c e = let q : c-normalise ≡ c = cc in rw (← q)
-code-is (suc (suc (suc (suc (suc zero))))) c e = let q : c-equal ≡ c = cc in rw (← q)
-code-is (suc (suc (suc (suc (suc (suc b)))))) c e = absurd (let z : _≡_ {A = ℕ} 0 1 = cc in omega arith)
 
 -- a call over what is sent: its row and its result
 unfoldable pub by-call : Callees → Code → ℕ → Context → List Term → W (ℕ × ℕ)

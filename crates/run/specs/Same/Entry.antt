@@ -1,13 +1,18 @@
 -- The run over words does what the contract says.
-use Prim.Native.Nat.{ℕ, suc}
+use Prim.Native.Nat.{ℕ, suc, _≤_}
 use mathlib.Core.Path.{_≡_, refl, ap, _∙_}
 use mathlib.Core.List.{List, [], _∷_}
+use mathlib.Core.Bool.{Bool, true, false}
+use native.Mathlib.Omega.{arith}
+use borrow.Author.Tests.{ltb-true}
+use lib.Dec.{ltb}
 use lib.ListN.{length}
-use Rattle.walk.specs.State.{State}
+use Rattle.walk.specs.Judgment.{Judgment}
+use Rattle.walk.specs.State.{State, Row}
 use Rattle.walk.specs.Reader.{Call}
 use Rattle.walk.specs.Run.{play, play-all, start}
 use Rattle.walk.specs.Run as W
-use Rattle.walk.specs.Demand.{Demand-3}
+use Rattle.walk.specs.Demand.{At, here, there, Distinct, cut, Demand-3}
 use Rattle.order.specs.Cases.{run-cases}
 use Rattle.link.specs.Asked.{ask-all, four-words, written-over}
 use Rattle.link.specs.Asked as L
@@ -21,6 +26,32 @@ answer-each : (calls : List Call) (s : State) → length (play-all calls s .0) �
 unfolding play-all
 answer-each [] s = refl
 answer-each (call ∷ calls) s = ap suc (answer-each calls (play call s .1))
+
+-- a table that is cut has rows of the table, and all up to there
+cut-in : (n : ℕ) (rs : List Row) (m : ℕ) (j : Judgment) → At m j (cut n rs) → At m j rs
+unfolding cut
+cut-in n [] m j h = h
+cut-in n (r ∷ rs) m j h = go (ltb n (length rs)) (cut-in n rs m j) h
+  where
+    go : (b : Bool) → (At m j (cut n rs) → At m j rs) → At m j (elim b as (λ _. List Row) [ true ↦ cut n rs | false ↦ r ∷ rs ]) → At m j (r ∷ rs)
+    go true ih h = there (ih h)
+    go false ih h = h
+
+cut-states : (n : ℕ) (rs : List Row) (m : ℕ) (j : Judgment) → m ≤ n → At m j rs → At m j (cut n rs)
+unfolding cut
+cut-states n (r ∷ rs) m j l (here e q) = go (ltb n (length rs)) refl
+  where
+    go : (b : Bool) → ltb n (length rs) ≡ b → At m j (elim b as (λ _. List Row) [ true ↦ cut n rs | false ↦ r ∷ rs ])
+    go true t = absurd (omega (arith, ltb-true n (length rs) t))
+    go false t = here e q
+cut-states n (r ∷ rs) m j l (there h) = go (ltb n (length rs)) (cut-states n rs m j l h)
+  where
+    go : (b : Bool) → At m j (cut n rs) → At m j (elim b as (λ _. List Row) [ true ↦ cut n rs | false ↦ r ∷ rs ])
+    go true k = k
+    go false k = there h
+
+cut-distinct : (n : ℕ) (rs : List Row) → Distinct rs → Distinct (cut n rs)
+cut-distinct n rs d = record { same-row = λ m k j a b. d .same-row m k j (cut-in n rs m j a) (cut-in n rs k j b) }
 
 module _ (bytes rows cells answers : List ℕ) where
   -- a run is refused, or read and played
@@ -38,6 +69,8 @@ module _ (bytes rows cells answers : List ℕ) where
     distinct = d .distinct;
     stated = d .stated;
     cut-order = d .cut-order;
+    cut-distinct = λ n. cut-distinct n _ (d .distinct);
+    cut-states = λ n. cut-states n _;
     cut-derives = d .cut-derives;
     grows = d .grows;
   }

@@ -1,80 +1,19 @@
 -- The bytes of a term that was read become its cells: `built` is `build-term`.
 use Prim.Native.Nat.{ℕ, zero, suc, _+_, _%_, _≤_, _<_}
 use mathlib.Core.Path.{_≡_, refl, sym, ap, _∙_}
-use mathlib.Core.List.{List, [], _∷_}
-use mathlib.Core.Option.{Option, none, some}
+use mathlib.Core.List.{List}
 use native.Mathlib.Omega.{arith}
-use lib.ListN.{length, getD, drop}
+use lib.ListN.{length, drop}
 use Rattle.ast.specs.Words.{up}
 use Rattle.producer.specs.Machine.{W, _>>=_, give, when_then_else_, intern}
 use Rattle.walk.specs.Syntax.{Interval, I0, I1, Dim, Neg, Meet, Join, Term, Universe, Var, Nat, Zero, Pi, Lam, App, Path, PathLam, PathApp}
-use Rattle.walk.specs.Reader.{got, bad, ok, Kind, k-u, k-v, k-nat, k-zero, k-pi, k-lam, k-app, k-path, k-plam, k-papp, IKind, k-0, k-1, k-dim, k-neg, k-meet, k-join, kinds, ikinds, read-interval, read-term}
+use Rattle.walk.specs.Reader.{got, bad, ok, Kind, k-u, k-v, k-nat, k-zero, k-pi, k-lam, k-app, k-path, k-plam, k-papp, IKind, k-0, k-1, k-dim, k-neg, k-meet, k-join, read-interval, read-term}
 use Rattle.syntax.specs.Ends.{goes-byte, goes-interval, goes-term}
+use Rattle.syntax.specs.Kinds.{kind-byte, kind-is, ikind-byte, ikind-is}
 use Rattle.syntax.specs.Nodes.{interval-of, term-of, NodeAt, interval-node, term-node, a-part, a-byte, is-ok}
 use Rattle.link.specs.Asked.{build-interval, build-term}
 use Rattle.run.specs.Build.{byte-at, parts-of, made, Builder, built-one, built-two, built-three, built-body, built}
 use Rattle.run.specs.Same.Steps.{then-same, made-then, made-in}
-
--- the byte of a kind
-
-abbrev kind-byte : Kind → ℕ
-kind-byte k-u = 1
-kind-byte k-v = 2
-kind-byte k-nat = 3
-kind-byte k-zero = 4
-kind-byte k-pi = 5
-kind-byte k-lam = 6
-kind-byte k-app = 7
-kind-byte k-path = 8
-kind-byte k-plam = 9
-kind-byte k-papp = 10
-
-abbrev ikind-byte : IKind → ℕ
-ikind-byte k-0 = 16
-ikind-byte k-1 = 17
-ikind-byte k-dim = 18
-ikind-byte k-neg = 19
-ikind-byte k-meet = 20
-ikind-byte k-join = 21
-
-kind-is : (b : ℕ) (k : Kind) → getD kinds b none ≡ some k → b ≡ kind-byte k
-kind-is zero k e = absurd (let z : _≡_ {A = ℕ} 0 1 = cc in omega arith)
-kind-is (suc zero) k e = let q : k-u ≡ k = cc in rw (← q)
-kind-is (suc (suc zero)) k e = let q : k-v ≡ k = cc in rw (← q)
-kind-is (suc (suc (suc zero))) k e = let q : k-nat ≡ k = cc in rw (← q)
-kind-is (suc (suc (suc (suc zero)))) k e = let q : k-zero ≡ k = cc in rw (← q)
-kind-is (suc (suc (suc (suc (suc zero))))) k e = let q : k-pi ≡ k = cc in rw (← q)
-kind-is (suc (suc (suc (suc (suc (suc zero)))))) k e = let q : k-lam ≡ k = cc in rw (← q)
-kind-is (suc (suc (suc (suc (suc (suc (suc zero))))))) k e = let q : k-app ≡ k = cc in rw (← q)
-kind-is (suc (suc (suc (suc (suc (suc (suc (suc zero)))))))) k e = let q : k-path ≡ k = cc in rw (← q)
-kind-is (suc (suc (suc (suc (suc (suc (suc (suc (suc zero))))))))) k e = let q : k-plam ≡ k = cc in rw (← q)
-kind-is (suc (suc (suc (suc (suc (suc (suc (suc (suc (suc zero)))))))))) k e = let q : k-papp ≡ k = cc in rw (← q)
-kind-is (suc (suc (suc (suc (suc (suc (suc (suc (suc (suc (suc b))))))))))) k e = absurd (let z : _≡_ {A = ℕ} 0 1 = cc in omega arith)
-
-ikind-is : (b : ℕ) (k : IKind) → getD ikinds b none ≡ some k → b ≡ ikind-byte k
-ikind-is zero k e = absurd (let z : _≡_ {A = ℕ} 0 1 = cc in omega arith)
-ikind-is (suc zero) k e = absurd (let z : _≡_ {A = ℕ} 0 1 = cc in omega arith)
-ikind-is (suc (suc zero)) k e = absurd (let z : _≡_ {A = ℕ} 0 1 = cc in omega arith)
-ikind-is (suc (suc (suc zero))) k e = absurd (let z : _≡_ {A = ℕ} 0 1 = cc in omega arith)
-ikind-is (suc (suc (suc (suc zero)))) k e = absurd (let z : _≡_ {A = ℕ} 0 1 = cc in omega arith)
-ikind-is (suc (suc (suc (suc (suc zero))))) k e = absurd (let z : _≡_ {A = ℕ} 0 1 = cc in omega arith)
-ikind-is (suc (suc (suc (suc (suc (suc zero)))))) k e = absurd (let z : _≡_ {A = ℕ} 0 1 = cc in omega arith)
-ikind-is (suc (suc (suc (suc (suc (suc (suc zero))))))) k e = absurd (let z : _≡_ {A = ℕ} 0 1 = cc in omega arith)
-ikind-is (suc (suc (suc (suc (suc (suc (suc (suc zero)))))))) k e = absurd (let z : _≡_ {A = ℕ} 0 1 = cc in omega arith)
-ikind-is (suc (suc (suc (suc (suc (suc (suc (suc (suc zero))))))))) k e = absurd (let z : _≡_ {A = ℕ} 0 1 = cc in omega arith)
-ikind-is (suc (suc (suc (suc (suc (suc (suc (suc (suc (suc zero)))))))))) k e = absurd (let z : _≡_ {A = ℕ} 0 1 = cc in omega arith)
-ikind-is (suc (suc (suc (suc (suc (suc (suc (suc (suc (suc (suc zero))))))))))) k e = absurd (let z : _≡_ {A = ℕ} 0 1 = cc in omega arith)
-ikind-is (suc (suc (suc (suc (suc (suc (suc (suc (suc (suc (suc (suc zero)))))))))))) k e = absurd (let z : _≡_ {A = ℕ} 0 1 = cc in omega arith)
-ikind-is (suc (suc (suc (suc (suc (suc (suc (suc (suc (suc (suc (suc (suc zero))))))))))))) k e = absurd (let z : _≡_ {A = ℕ} 0 1 = cc in omega arith)
-ikind-is (suc (suc (suc (suc (suc (suc (suc (suc (suc (suc (suc (suc (suc (suc zero)))))))))))))) k e = absurd (let z : _≡_ {A = ℕ} 0 1 = cc in omega arith)
-ikind-is (suc (suc (suc (suc (suc (suc (suc (suc (suc (suc (suc (suc (suc (suc (suc zero))))))))))))))) k e = absurd (let z : _≡_ {A = ℕ} 0 1 = cc in omega arith)
-ikind-is (suc (suc (suc (suc (suc (suc (suc (suc (suc (suc (suc (suc (suc (suc (suc (suc zero)))))))))))))))) k e = let q : k-0 ≡ k = cc in rw (← q)
-ikind-is (suc (suc (suc (suc (suc (suc (suc (suc (suc (suc (suc (suc (suc (suc (suc (suc (suc zero))))))))))))))))) k e = let q : k-1 ≡ k = cc in rw (← q)
-ikind-is (suc (suc (suc (suc (suc (suc (suc (suc (suc (suc (suc (suc (suc (suc (suc (suc (suc (suc zero)))))))))))))))))) k e = let q : k-dim ≡ k = cc in rw (← q)
-ikind-is (suc (suc (suc (suc (suc (suc (suc (suc (suc (suc (suc (suc (suc (suc (suc (suc (suc (suc (suc zero))))))))))))))))))) k e = let q : k-neg ≡ k = cc in rw (← q)
-ikind-is (suc (suc (suc (suc (suc (suc (suc (suc (suc (suc (suc (suc (suc (suc (suc (suc (suc (suc (suc (suc zero)))))))))))))))))))) k e = let q : k-meet ≡ k = cc in rw (← q)
-ikind-is (suc (suc (suc (suc (suc (suc (suc (suc (suc (suc (suc (suc (suc (suc (suc (suc (suc (suc (suc (suc (suc zero))))))))))))))))))))) k e = let q : k-join ≡ k = cc in rw (← q)
-ikind-is (suc (suc (suc (suc (suc (suc (suc (suc (suc (suc (suc (suc (suc (suc (suc (suc (suc (suc (suc (suc (suc (suc b)))))))))))))))))))))) k e = absurd (let z : _≡_ {A = ℕ} 0 1 = cc in omega arith)
 
 -- the parts of a node
 
