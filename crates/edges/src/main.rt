@@ -167,7 +167,7 @@ fn past(s: &[u32], used: usize) {
 fn call(run: RunAnswer, codes: &[u8], answers: &[u32], cells: &[u32], i: u32) {
     let mut buf = [0u8; 4096];
     say(b"call ");
-    let n = text::window(
+    let seen = text::window(
         Piece::CallLine(i),
         run,
         codes,
@@ -175,9 +175,10 @@ fn call(run: RunAnswer, codes: &[u8], answers: &[u32], cells: &[u32], i: u32) {
         &[0u32; 0],
         cells,
         0,
+        0,
         &mut buf,
     );
-    say(&buf[..n]);
+    say(&buf[..seen.put]);
 }
 
 // The lines of the last eight calls.

@@ -3,7 +3,7 @@ use libc::STDOUT_FILENO;
 use text::Piece;
 use text::RunAnswer;
 
-// The part of the listing from `from` on that fits the buffer; whether there may be more.
+// The part of the listing from `from` on that fits the buffer; whether there is more.
 fn turn(
     run: RunAnswer,
     codes: &[u8],
@@ -13,7 +13,7 @@ fn turn(
     from: usize,
 ) -> bool {
     let mut buf = [0u8; 65536];
-    let n = text::window(
+    let seen = text::window(
         Piece::Listing,
         run,
         codes,
@@ -21,10 +21,11 @@ fn turn(
         rows,
         cells,
         from,
+        1,
         &mut buf,
     );
-    io::write_all(STDOUT_FILENO, &buf[..n]);
-    n == 65536
+    io::write_all(STDOUT_FILENO, &buf[..seen.put]);
+    seen.left != 0
 }
 
 fn show(run: RunAnswer, codes: &[u8], answers: &[u32], rows: &[u32], cells: &[u32]) {

@@ -357,7 +357,7 @@ pub fn put_row(
 impl State {
     // The row with the judgment: the last that has it, or a new one; refuses (18) where none is left.
     pub fn emit(
-        self,
+        mut self,
         rows: &mut [u32],
         cells: &[u32],
         rule: u32,
@@ -378,18 +378,8 @@ impl State {
             Found::Nothing => {
                 if n < self.rowroom {
                     put_row(rows, n, rule, refs, kind, count, a, b, c, d, e);
-                    return Got::Is(
-                        State {
-                            rows: n + 1,
-                            cells: self.cells,
-                            conversions: self.conversions,
-                            deepest: self.deepest,
-                            limit: self.limit,
-                            rowroom: self.rowroom,
-                            cellroom: self.cellroom,
-                        },
-                        n,
-                    );
+                    self.rows = n + 1;
+                    return Got::Is(self, n);
                 }
                 Got::Refused(self, codes::ROWS)
             }

@@ -80,20 +80,12 @@ pub enum Round {
 
 impl State {
     // One level in, with `left` levels below it.
-    pub fn deeper(self, left: u32) -> State
+    pub fn deeper(mut self, left: u32) -> State
         ensures { λ r. ⌜ r ≡ deeper-of self left ⌝ }
     {
         let depth = less(self.limit, left);
-        let deepest = greater(self.deepest, depth);
-        State {
-            rows: self.rows,
-            cells: self.cells,
-            conversions: self.conversions,
-            deepest,
-            limit: self.limit,
-            rowroom: self.rowroom,
-            cellroom: self.cellroom,
-        }
+        self.deepest = greater(self.deepest, depth);
+        self
     }
 
     // A call is about to be made, and an argument is to be made for it: refuses (19) before that where nothing is left.
@@ -108,18 +100,11 @@ impl State {
     }
 
     // With `n` conversions begun.
-    pub fn converting(self, n: u32) -> State
+    pub fn converting(mut self, n: u32) -> State
         ensures { λ r. ⌜ r ≡ conversions-of n self ⌝ }
     {
-        State {
-            rows: self.rows,
-            cells: self.cells,
-            conversions: n,
-            deepest: self.deepest,
-            limit: self.limit,
-            rowroom: self.rowroom,
-            cellroom: self.cellroom,
-        }
+        self.conversions = n;
+        self
     }
 }
 

@@ -16,7 +16,15 @@ use ast::kinds;
 
 impl State {
     // The cell with the kind and the parts: the one that has them, or a new one; refuses (20) where none is left.
-    pub fn intern(self, rows: &[u32], cells: &mut [u32], kind: u32, a: u32, b: u32, c: u32) -> Got
+    pub fn intern(
+        mut self,
+        rows: &[u32],
+        cells: &mut [u32],
+        kind: u32,
+        a: u32,
+        b: u32,
+        c: u32,
+    ) -> Got
         ensures { λ r. ⌜ end r (now (rows .entry)) (now (cells .exit)) ≡ intern kind a b c (machine (now (rows .entry)) (now (cells .entry)) self) ⌝ }
     {
         let n = self.cells;
@@ -26,18 +34,8 @@ impl State {
                 if n < self.cellroom {
                     let quote = lowest(cells, n, kind, a, b, c);
                     put_cell(cells, n, kind, a, b, c, quote, 0, 0, 0);
-                    return Got::Is(
-                        State {
-                            rows: self.rows,
-                            cells: n + 1,
-                            conversions: self.conversions,
-                            deepest: self.deepest,
-                            limit: self.limit,
-                            rowroom: self.rowroom,
-                            cellroom: self.cellroom,
-                        },
-                        n,
-                    );
+                    self.cells = n + 1;
+                    return Got::Is(self, n);
                 }
                 Got::Refused(self, codes::CELLS)
             }
@@ -46,7 +44,7 @@ impl State {
 
     // Remembers an inference: a key has one cell, which is written over where it is stored again; refuses (20) where none is left.
     pub fn remember(
-        self,
+        mut self,
         rows: &[u32],
         cells: &mut [u32],
         d: u32,
@@ -66,15 +64,8 @@ impl State {
             Found::Nothing => {
                 if n < self.cellroom {
                     put_cell(cells, n, kinds::INFERENCE, d, g, t, ty, row, 0, 0);
-                    return Done::Ready(State {
-                        rows: self.rows,
-                        cells: n + 1,
-                        conversions: self.conversions,
-                        deepest: self.deepest,
-                        limit: self.limit,
-                        rowroom: self.rowroom,
-                        cellroom: self.cellroom,
-                    });
+                    self.cells = n + 1;
+                    return Done::Ready(self);
                 }
                 Done::Refused(self, codes::CELLS)
             }

@@ -99,7 +99,18 @@ fn shown(
     from: usize,
     buf: &mut [u8; 16384],
 ) -> usize {
-    text::window(Piece::Listing, run, codes, answers, rows, cells, from, buf)
+    let seen = text::window(
+        Piece::Listing,
+        run,
+        codes,
+        answers,
+        rows,
+        cells,
+        from,
+        0,
+        buf,
+    );
+    seen.put
 }
 
 // The rest of a line, or what there is of it in the buffer.

@@ -107,18 +107,11 @@ fn answered(q: Two, next: usize) -> Turn
 }
 
 // The state of a call that is about to be walked: deepest starts from 0.
-fn begin(state: State) -> State
+fn begin(mut state: State) -> State
     ensures { λ r. ⌜ r ≡ fresh state ⌝ }
 {
-    State {
-        rows: state.rows,
-        cells: state.cells,
-        conversions: state.conversions,
-        deepest: 0,
-        limit: state.limit,
-        rowroom: state.rowroom,
-        cellroom: state.cellroom,
-    }
+    state.deepest = 0;
+    state
 }
 
 // The call at `at`: its limits first. In a run that was read, no size is bad or short.

@@ -1,21 +1,21 @@
 -- Laws of the definitions, by which the functions' proofs go. Assumes nothing.
 use mathlib.Core.Path.{_≡_, refl, sym, ap, _∙_}
-use mathlib.Core.Bool.{Bool, true, false}
+use mathlib.Core.Bool.{Bool, true, false, _&&_, and-eq-true-iff}
 use mathlib.Core.List.{List, [], _∷_, _++_}
 use Prim.Native.Nat.{ℕ, zero, suc, _+_, _-_, _/_, _<_, _≤_}
 use native.Mathlib.Nat.{sub-zero}
 use native.Mathlib.Numerals.{sub-one}
 use native.Mathlib.Decide.{decLt}
 use native.Mathlib.Omega.{arith}
-use borrow.Author.Tests.{lt-ltb, le-ltb, eq-eqb, ne-eqb}
-use lib.Dec.{ltb, eqb}
+use borrow.Author.Tests.{lt-ltb, le-ltb, eq-eqb, ne-eqb, eqb-true, leb-true}
+use lib.Dec.{ltb, leb, eqb}
 use lib.ListN.{length, getD}
 use Rattle.text.specs.Text.{Text, each, digit, digits, decimal, row-word, argument, part-as, node-as, reference, some-refs}
 use Rattle.text.specs.Listing.{call-line, row-line, totals, refused-listing, read-listing}
 use Rattle.text.specs.declared.RunAnswer.{RunAnswer}
 use Rattle.rules.specs.Names.{bytes, node-name}
 use Rattle.rules.specs.Kinds.{part-of}
-use Rattle.text.specs.Window.{Page, page, put, wrote}
+use Rattle.text.specs.Window.{Page, page, put, ended, wrote}
 use Rattle.text.specs.declared.Pen.{Pen}
 
 -- writing
@@ -33,15 +33,26 @@ unfolding wrote
 wrote-append [] t w = refl
 wrote-append (b ∷ s) t w = wrote-append s t (put b w)
 
-put-full : (b : ℕ) (p : Pen) (buf : List ℕ) → length buf ≤ p .filled → put b (page p buf) ≡ page p buf
-unfolding put
-put-full b p buf h = rw (le-ltb _ _ h, put)
+both : {a b : Bool} → (a && b) ≡ true → (a ≡ true) × (b ≡ true)
+both {a} {b} h = and-eq-true-iff a b .0 h
 
--- In a full buffer nothing changes.
-pub wrote-full : (t : Text) (p : Pen) (buf : List ℕ) → length buf ≤ p .filled → wrote t (page p buf) ≡ page p buf
+ended-parts : (p : Pen) (buf : List ℕ) → ended (page p buf) ≡ true → (p .skip ≡ 0) × ((length buf ≤ p .filled) × (p .most ≤ p .left))
+unfolding ended
+ended-parts p buf h =
+    let k : (eqb (p .skip) 0 ≡ true) × ((leb (length buf) (p .filled) && leb (p .most) (p .left)) ≡ true) = both h in
+    let l : (leb (length buf) (p .filled) ≡ true) × (leb (p .most) (p .left) ≡ true) = both (k .1) in
+    (eqb-true _ _ (k .0), (leb-true _ _ (l .0), leb-true _ _ (l .1)))
+
+put-ended : (b : ℕ) (p : Pen) (buf : List ℕ) → ended (page p buf) ≡ true → put b (page p buf) ≡ page p buf
+unfolding put
+put-ended b p buf h = let k : (p .skip ≡ 0) × ((length buf ≤ p .filled) × (p .most ≤ p .left)) = ended-parts p buf h in
+    rw (eq-eqb _ _ (k .0), put, le-ltb _ _ (k .1 .0), put, le-ltb _ _ (k .1 .1), put)
+
+-- Where the pen has ended nothing changes.
+pub wrote-ended : (t : Text) (p : Pen) (buf : List ℕ) → ended (page p buf) ≡ true → wrote t (page p buf) ≡ page p buf
 unfolding wrote
-wrote-full [] p buf h = refl
-wrote-full (b ∷ t) p buf h = ap (wrote t) (put-full b p buf h) ∙ wrote-full t p buf h
+wrote-ended [] p buf h = refl
+wrote-ended (b ∷ t) p buf h = ap (wrote t) (put-ended b p buf h) ∙ wrote-ended t p buf h
 
 -- loops
 

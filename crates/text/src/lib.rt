@@ -6,7 +6,7 @@ ghost use Rattle.rules.specs.Names.{name-of};
 ghost use Rattle.text.specs.Text.{each, digit, decimal, cell-word, row-word, lower, part-as, quote, refs, reference, place, judgment-as};
 ghost use Rattle.text.specs.Repeats.{answer-word, code, is-call, repeat, repeats};
 ghost use Rattle.text.specs.Listing.{call-row, result, call-result, call-head, call-line, row-head, row-line, totals, refused-listing, listing, piece};
-ghost use Rattle.text.specs.Window.{page, pen, put, wrote, Shown};
+ghost use Rattle.text.specs.Window.{page, pen, put, ended, wrote, Shown};
 use rules::Name;
 
 // What a run answers of itself.
@@ -30,10 +30,19 @@ pub enum Piece {
     Judgment(u32),
 }
 
-// Writes into a buffer that is lent at each call: how many bytes are still to be skipped, and how many of the buffer are filled.
+// Writes into a buffer that is lent at each call: how many bytes are still to be skipped, how many of the buffer are filled, and how
+// many did not fit, which are counted up to `most`.
 pub struct Pen {
     pub skip: usize,
     pub filled: usize,
+    pub left: usize,
+    pub most: usize,
+}
+
+// What a window shows of a text: how many bytes it put, and how many are left after them, counted as far as was asked.
+pub struct View {
+    pub put: usize,
+    pub left: usize,
 }
 
 // The word at `i`, and 0 past the end.
@@ -141,34 +150,47 @@ fn digit(n: u32) -> u8
 }
 
 impl Pen {
-    // A pen for the window that starts at `from`.
-    pub fn new(from: usize) -> Pen
-        ensures { λ r. ⌜ r ≡ pen from 0 ⌝ }
+    // A pen for the window that starts at `from`, which counts at most so many bytes past its end.
+    pub fn new(from: usize, most: usize) -> Pen
+        ensures { λ r. ⌜ r ≡ pen from 0 0 most ⌝ }
     {
         Pen {
             skip: from,
             filled: 0,
+            left: 0,
+            most,
         }
     }
 
-    pub fn put(self, b: u8, buf: &mut [u8]) -> Pen
+    pub fn put(mut self, b: u8, buf: &mut [u8]) -> Pen
         ensures { λ r. ⌜ page r (now (buf .exit)) ≡ put b (page self (now (buf .entry))) ⌝ }
     {
+        if self.skip != 0 {
+            self.skip -= 1;
+            return self;
+        }
         let at = self.filled;
         if at < buf.len() {
-            if self.skip == 0 {
-                buf[at] = b;
-                return Pen {
-                    skip: 0,
-                    filled: at + 1,
-                };
-            }
-            return Pen {
-                skip: self.skip - 1,
-                filled: at,
-            };
+            buf[at] = b;
+            self.filled = at + 1;
+            return self;
+        }
+        if self.left < self.most {
+            self.left += 1;
         }
         self
+    }
+
+    // Whether no byte changes anything any more.
+    fn ended(self, buf: &[u8]) -> bool
+        ensures { λ r. ⌜ r ≡ ended (page self (now (buf .entry))) ⌝ }
+    {
+        if self.skip == 0 {
+            if buf.len() <= self.filled {
+                return self.most <= self.left;
+            }
+        }
+        false
     }
 
     // A number in decimal.
@@ -210,11 +232,11 @@ impl Pen {
         p
     }
 
-    // The quote of a cell. A full buffer ends it, so that a long text costs no more than what is asked of it.
+    // The quote of a cell. It ends where all that was asked for is there, so that a long text costs no more than that.
     pub fn quote(self, cells: &[u32], i: u32, buf: &mut [u8]) -> Pen
         ensures { λ r. ⌜ page r (now (buf .exit)) ≡ wrote (quote (now (cells .entry)) i) (page self (now (buf .entry))) ⌝ }
     {
-        if buf.len() <= self.filled {
+        if self.ended(buf) {
             return self;
         }
         let kind = cell_word(cells, i, 0);
@@ -507,9 +529,9 @@ impl Pen {
     }
 }
 
-// Puts the part of a text from `from` on into the buffer, and says how many bytes that is: where fewer than the buffer holds, the
-// text ends there. Bytes of the buffer past those stay. The second clause follows from the first, and lets a caller lend the part
-// that is filled with no proof of its own.
+// Puts the part of a text from `from` on into the buffer; says how many bytes that is, and how many are left. A text may be far too
+// long to be counted, so those that are left are counted up to `most`: with 1, whether there are more. Bytes of the buffer past those
+// put stay. The second clause follows from the first, and lets a caller lend the part that is filled with no proof of its own.
 pub fn window(
     what: Piece,
     run: RunAnswer,
@@ -518,11 +540,15 @@ pub fn window(
     rows: &[u32],
     cells: &[u32],
     from: usize,
+    most: usize,
     buf: &mut [u8],
-) -> usize
-    ensures shown { λ r. ⌜ Shown (piece what run (now (codes .entry)) (now (answers .entry)) (now (rows .entry)) (now (cells .entry))) from (now (buf .entry)) r (now (buf .exit)) ⌝ }
-    ensures within { λ r. ⌜ (r ≤ length (now (buf .exit))) × (r ≡ length (take r (now (buf .exit)))) ⌝ }
+) -> View
+    ensures shown { λ r. ⌜ Shown (piece what run (now (codes .entry)) (now (answers .entry)) (now (rows .entry)) (now (cells .entry))) from most (now (buf .entry)) r (now (buf .exit)) ⌝ }
+    ensures within { λ r. ⌜ (r .put ≤ length (now (buf .exit))) × (r .put ≡ length (take (r .put) (now (buf .exit)))) ⌝ }
 {
-    let p = Pen::new(from).piece(what, run, codes, answers, rows, cells, buf);
-    p.filled
+    let p = Pen::new(from, most).piece(what, run, codes, answers, rows, cells, buf);
+    View {
+        put: p.filled,
+        left: p.left,
+    }
 }

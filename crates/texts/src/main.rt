@@ -1,10 +1,11 @@
 // Prints texts through a window of seven bytes: the specification's worked example, a run that is refused, and a store with a cell
-// of every kind, whole and piece by piece.
+// of every kind, whole and piece by piece; then how much is left of a short text and of one that nobody could print.
 use libc::STDOUT_FILENO;
+use text::Pen;
 use text::Piece;
 use text::RunAnswer;
 
-// The window that starts at `from`; how many bytes it has.
+// The window that starts at `from`; whether there is more.
 fn turn(
     what: Piece,
     run: RunAnswer,
@@ -13,18 +14,18 @@ fn turn(
     rows: &[u32],
     cells: &[u32],
     from: usize,
-) -> usize {
+) -> bool {
     let mut buf = [0u8; 7];
-    let n = text::window(what, run, codes, answers, rows, cells, from, &mut buf);
-    io::write_all(STDOUT_FILENO, &buf[..n]);
-    n
+    let seen = text::window(what, run, codes, answers, rows, cells, from, 1, &mut buf);
+    io::write_all(STDOUT_FILENO, &buf[..seen.put]);
+    seen.left == 1
 }
 
 // A whole text, which has fewer than 4,096 bytes.
 fn show(what: Piece, run: RunAnswer, codes: &[u8], answers: &[u32], rows: &[u32], cells: &[u32]) {
     let mut from: usize = 0;
     while from < 4096 {
-        if turn(what, run, codes, answers, rows, cells, from) < 7 {
+        if !turn(what, run, codes, answers, rows, cells, from) {
             return;
         }
         from += 7;
@@ -35,6 +36,66 @@ fn show(what: Piece, run: RunAnswer, codes: &[u8], answers: &[u32], rows: &[u32]
 fn show_field(what: Piece, run: RunAnswer, rows: &[u32], cells: &[u32]) {
     show(what, run, b"", &[0u32; 0], rows, cells);
     io::write_all(STDOUT_FILENO, b"\n");
+}
+
+fn number(n: usize) {
+    let mut buf = [0u8; 10];
+    let pen = Pen::new(0, 0).number((n % 4294967296) as u32, &mut buf);
+    if pen.filled <= 10 {
+        io::write_all(STDOUT_FILENO, &buf[..pen.filled]);
+    }
+}
+
+// How many bytes a window of seven at `from` puts of a call's line, and how many are left, counted up to `most`.
+fn measure(answers: &[u32], cells: &[u32], from: usize, most: usize) {
+    let run = RunAnswer {
+        number: 0,
+        place: 0,
+        calls: 1,
+        rows: 1,
+        cells: 64,
+    };
+    let mut buf = [0u8; 7];
+    let seen = text::window(
+        Piece::CallLine(0),
+        run,
+        b"\x02",
+        answers,
+        &[0u32; 0],
+        cells,
+        from,
+        most,
+        &mut buf,
+    );
+    number(seen.put);
+    io::write_all(STDOUT_FILENO, b" ");
+    number(seen.left);
+    io::write_all(STDOUT_FILENO, b"\n");
+}
+
+// What is left of a text: `0 0 0 nat 1` and the line's end, twelve bytes; and a text of more than 2^63.
+fn left() {
+    let mut cells = [0u32; 512];
+    cells[0] = 3;
+    let mut i: usize = 1;
+    while i < 64 {
+        cells[i * 8] = 5;
+        cells[i * 8 + 1] = (i - 1) as u32;
+        cells[i * 8 + 2] = (i - 1) as u32;
+        i += 1;
+    }
+    let short: [u32; 4] = [0, 0, 0, 1];
+    measure(&short, &cells, 0, 0);
+    measure(&short, &cells, 0, 1);
+    measure(&short, &cells, 0, 100);
+    measure(&short, &cells, 5, 100);
+    measure(&short, &cells, 6, 100);
+    measure(&short, &cells, 12, 100);
+    measure(&short, &cells, 13, 100);
+    let long: [u32; 4] = [0, 0, 63, 1];
+    measure(&long, &cells, 0, 0);
+    measure(&long, &cells, 0, 1);
+    measure(&long, &cells, 1000, 1000);
 }
 
 // The run 100 0 3 0 0 4 3.
@@ -456,4 +517,5 @@ fn main() {
     first();
     early();
     every();
+    left();
 }

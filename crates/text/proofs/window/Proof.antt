@@ -15,7 +15,7 @@ same-length : tie.Need-same-length
 same-length c = omega (arith, c .before .before .piece .kept)
 
 returns : tie.Need-returns
-returns c = windowed _ _ _ _ _ _ (c .before .before .before .before .new .ensures) (c .before .before .piece .ensures) (c .before .before .piece .kept .1 .1 .1 .1 .1 .1 .1 .0)
+returns c = windowed _ _ _ _ _ _ _ (c .before .before .before .before .new .ensures) (c .before .before .piece .ensures) (c .before .before .piece .kept .1 .1 .1 .1 .1 .1 .1 .0)
 
 pub window-spec : {M : Type 1} → statement M
 window-spec = tie.close (tie.spec new-requires piece-requires same-length returns)

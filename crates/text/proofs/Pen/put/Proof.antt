@@ -5,30 +5,38 @@ use borrow.Author.Needs.{needs}
 use Rattle.text.proofs.Pen.put.Statement.{statement}
 use Rattle.text.proofs.Pen.put.Tie as tie
 
+sub-self : tie.Need-sub-self
+sub-self c = search needs
+
+returns : tie.Need-returns
+unfolding put
+returns c = rw (ne-eqb _ _ (c .before .if1 .taken), put)
+
 slice-write-buf : tie.Need-slice-write-buf
 slice-write-buf c = search needs
 
-add-t9 : tie.Need-add-t9
-add-t9 c = search needs
+add-self : tie.Need-add-self
+add-self c = search needs
 
 same-length : tie.Need-same-length
 same-length c = search needs
 
-returns : tie.Need-returns
-unfolding put
-returns c = rw (lt-ltb _ _ (c .before .before .if1 .taken), put, eq-eqb _ _ (c .if2 .taken), put)
-
-sub-t10 : tie.Need-sub-t10
-sub-t10 c = search needs
-
 returns-2 : tie.Need-returns-2
 unfolding put
-returns-2 c = rw (lt-ltb _ _ (c .before .before .before .if1 .taken), put, ne-eqb _ _ (c .before .if2 .left), put)
+returns-2 c = rw (eq-eqb _ _ (c .before .if1 .left), put, lt-ltb _ _ (c .if2 .taken), put)
+
+add-self-2 : tie.Need-add-self-2
+add-self-2 c = search needs
 
 returns-3 : tie.Need-returns-3
 unfolding put
-returns-3 c = rw (le-ltb _ _ (c .if1 .left), put)
+returns-3 c = rw (eq-eqb _ _ (c .before .before .before .before .if1 .left), put, le-ltb _ _ (c .before .before .before .if2 .left), put, lt-ltb _ _ (c .before .if3 .taken), put)
+
+returns-4 : tie.Need-returns-4
+unfolding put
+returns-4 c = rw (eq-eqb _ _ (c .before .before .before .if1 .left), put, le-ltb _ _ (c .before .before .if2 .left), put, le-ltb _ _ (c .if3 .left), put)
 
 pub put-spec : {M : Type 1} → statement M
 put-spec =
-    tie.close (tie.spec slice-write-buf add-t9 same-length returns sub-t10 returns-2 returns-3)
+    tie.close
+    (tie.spec sub-self returns slice-write-buf add-self same-length returns-2 add-self-2 returns-3 returns-4)

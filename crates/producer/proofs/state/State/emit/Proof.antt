@@ -18,8 +18,8 @@ enum-told c = search needs
 put-row-requires : tie.Need-put-row-requires
 put-row-requires c κs = search needs
 
-add-t23 : tie.Need-add-t23
-add-t23 c = search needs
+add-self : tie.Need-add-self
+add-self c = search needs
 
 same-length : tie.Need-same-length
 same-length c = search needs
@@ -50,7 +50,7 @@ emit-spec =
     enum-known-i
     enum-told
     put-row-requires
-    add-t23
+    add-self
     same-length
     returns
     same-length-2

@@ -21,8 +21,8 @@ lowest-requires c κs = search needs
 put-cell-requires : tie.Need-put-cell-requires
 put-cell-requires c κs = search needs
 
-add-t21 : tie.Need-add-t21
-add-t21 c = search needs
+add-self : tie.Need-add-self
+add-self c = search needs
 
 same-length : tie.Need-same-length
 same-length c = search needs
@@ -54,7 +54,7 @@ intern-spec =
     enum-told
     lowest-requires
     put-cell-requires
-    add-t21
+    add-self
     same-length
     returns
     same-length-2

@@ -21,8 +21,8 @@ enum-told c = search needs
 put-cell-requires : tie.Need-put-cell-requires
 put-cell-requires c κs = search needs
 
-add-t22 : tie.Need-add-t22
-add-t22 c = search needs
+add-self : tie.Need-add-self
+add-self c = search needs
 
 same-length : tie.Need-same-length
 same-length c = search needs
@@ -54,7 +54,7 @@ remember-spec =
     put-again-requires
     enum-told
     put-cell-requires
-    add-t22
+    add-self
     same-length
     returns
     same-length-2
