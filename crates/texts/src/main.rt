@@ -1,7 +1,6 @@
 // Prints texts through a window of seven bytes: the specification's worked example, a run that is refused, and a store with a cell
 // of every kind, whole and piece by piece; then how much is left of a short text and of one that nobody could print.
 use libc::STDOUT_FILENO;
-use text::Pen;
 use text::Piece;
 use text::RunAnswer;
 
@@ -38,11 +37,25 @@ fn show_field(what: Piece, run: RunAnswer, rows: &[u32], cells: &[u32]) {
     io::write_all(STDOUT_FILENO, b"\n");
 }
 
-fn number(n: usize) {
-    let mut buf = [0u8; 10];
-    let pen = Pen::new(0, 0).number((n % 4294967296) as u32, &mut buf);
-    if pen.filled <= 10 {
-        io::write_all(STDOUT_FILENO, &buf[..pen.filled]);
+// The word `i` of a store whose cells are each a pi type of the one before it twice, but the first, which is nat.
+fn nested(i: u32) -> u32 {
+    if i < 8 {
+        return if i == 0 { 3 } else { 0 };
+    }
+    if i % 8 == 0 {
+        return 5;
+    }
+    if i % 8 < 3 {
+        return i / 8 - 1;
+    }
+    0
+}
+
+fn nest(cells: &mut [u32]) {
+    let mut i: usize = 0;
+    while i < cells.len() {
+        cells[i] = nested((i % 4294967296) as u32);
+        i += 1;
     }
 }
 
@@ -67,35 +80,37 @@ fn measure(answers: &[u32], cells: &[u32], from: usize, most: usize) {
         most,
         &mut buf,
     );
-    number(seen.put);
+    io::print_decimal(STDOUT_FILENO, seen.put as u64);
     io::write_all(STDOUT_FILENO, b" ");
-    number(seen.left);
+    io::print_decimal(STDOUT_FILENO, seen.left as u64);
     io::write_all(STDOUT_FILENO, b"\n");
 }
 
-// What is left of a text: `0 0 0 nat 1` and the line's end, twelve bytes; and a text of more than 2^63.
+// What is left of `0 0 0 nat 1` and the line's end, twelve bytes.
+fn short(cells: &[u32]) {
+    let answers: [u32; 4] = [0, 0, 0, 1];
+    measure(&answers, cells, 0, 0);
+    measure(&answers, cells, 0, 1);
+    measure(&answers, cells, 0, 100);
+    measure(&answers, cells, 5, 100);
+    measure(&answers, cells, 6, 100);
+    measure(&answers, cells, 12, 100);
+    measure(&answers, cells, 13, 100);
+}
+
+// And of a text of more than 2^63 bytes.
+fn long(cells: &[u32]) {
+    let answers: [u32; 4] = [0, 0, 63, 1];
+    measure(&answers, cells, 0, 0);
+    measure(&answers, cells, 0, 1);
+    measure(&answers, cells, 1000, 1000);
+}
+
 fn left() {
     let mut cells = [0u32; 512];
-    cells[0] = 3;
-    let mut i: usize = 1;
-    while i < 64 {
-        cells[i * 8] = 5;
-        cells[i * 8 + 1] = (i - 1) as u32;
-        cells[i * 8 + 2] = (i - 1) as u32;
-        i += 1;
-    }
-    let short: [u32; 4] = [0, 0, 0, 1];
-    measure(&short, &cells, 0, 0);
-    measure(&short, &cells, 0, 1);
-    measure(&short, &cells, 0, 100);
-    measure(&short, &cells, 5, 100);
-    measure(&short, &cells, 6, 100);
-    measure(&short, &cells, 12, 100);
-    measure(&short, &cells, 13, 100);
-    let long: [u32; 4] = [0, 0, 63, 1];
-    measure(&long, &cells, 0, 0);
-    measure(&long, &cells, 0, 1);
-    measure(&long, &cells, 1000, 1000);
+    nest(&mut cells);
+    short(&cells);
+    long(&cells);
 }
 
 // The run 100 0 3 0 0 4 3.
