@@ -18,7 +18,7 @@ ONLY = sys.argv[2:]
 ROOT = os.path.abspath('crates/%s/proofs' % CRATE)
 GENERATED = os.environ.get('GENERATED') or tempfile.mkdtemp(prefix='rattle-generated-')
 MADE = '-- Made by tools/prove.py: to make it again, run `python3 tools/prove.py %s`.' % CRATE
-SHUT = ('callees', 'rounds', 'built', 'scoped')  # what is never unfolded: laws speak of it
+SHUT = ('callees', 'rounds', 'built', 'scoped', 'same-node', 'same-row')  # what is never unfolded: laws speak of it
 CHUNK = 6  # entries in one rewriting: a longer one is nested
 
 FN, UNF, LENDS = {}, {}, set()

@@ -10,6 +10,7 @@ UNFOLD = {
     'remember': 'remembered-or new-memory add-cell replace',
     'ctx': 'known-row known-or',
     'deeper': 'deeper-of',
+    'same-look': 'all-eq',
 }
 
 # The laws of a shape that is unlike the one taken apart, by the tag of the latter.
@@ -47,6 +48,8 @@ HAND = {
     'put-answer': {'first': ['put-four _ _ _ _ _ _']},
     'put': {'use': ['use lib.Seq.{set-out}'], 'over': {'returns-2': 'sym (set-out _ _ _ (c .if1 .left))'}},
     'word': {'use': ['use lib.ListN.{List·getD-eq-default}'], 'over': {'returns-2': 'sym (List·getD-eq-default (c .before .args .words .now) 0 (c .if1 .left))'}},
+    'same-node': {'first': ['node-by-third _ _ _ _ _ _']},
+    'same-row': {'first': ['row-by-third _ _ _ _ _ _ _ _']},
     'find-node': search_up('same-node', 'same-node cells kind a b c'),
     'find-look': search_up('same-look', 'same-look cells kind x y z'),
     'find-row': {

@@ -1,4 +1,4 @@
--- Laws of searches and of runs of stores. Assumes nothing.
+-- Laws of searches, of tests and of runs of stores. Assumes nothing.
 use mathlib.Core.Path.{_≡_, refl, sym, ap, _∙_}
 use mathlib.Core.List.{List, [], _∷_}
 use mathlib.Core.Bool.{Bool, true, false}
@@ -7,8 +7,9 @@ use native.Mathlib.Numerals.{sub-one}
 use native.Mathlib.Omega.{arith}
 use lib.ListN.{getD, set}
 use lib.Seq.{sets}
-use Rattle.ast.specs.Words.{ifb}
-use Rattle.ast.specs.Cells.{or-else, first-of, last-of}
+use lib.Dec.{eqb}
+use Rattle.ast.specs.Words.{ifb, all-eq}
+use Rattle.ast.specs.Cells.{or-else, first-of, last-of, cell-of, same-node}
 use Rattle.ast.specs.declared.cells.Found.{Found}
 use Rattle.ast.specs.declared.cells.Found.the-variants.{At, Nothing}
 
@@ -42,6 +43,33 @@ first-zero t = refl
 
 pub first-none : (t : ℕ → Bool) (n i : ℕ) → n ≤ i → i ≤ n → first-of t i ≡ Nothing → first-of t n ≡ Nothing
 first-none t n i h k e = let g : n ≡ i = omega arith in rw (g, e)
+
+-- tests in another order
+
+no-either : (t : Bool) → ifb t false false ≡ false
+no-either true = refl
+no-either false = refl
+
+-- Four tests, then x: the fourth and the third first.
+pub fourth-first : (p q r s x : Bool) → ifb (ifb p (ifb q (ifb r s false) false) false) x false ≡ ifb s (ifb r (ifb p (ifb q x false) false) false) false
+fourth-first false q r s x = rw (no-either r, no-either s)
+fourth-first true false r s x = rw (no-either r, no-either s)
+fourth-first true true false s x = rw (no-either s)
+fourth-first true true true s x = refl
+
+itself : (t : Bool) → t ≡ ifb t true false
+itself true = refl
+itself false = refl
+
+-- A node by its third part first.
+pub node-by-third : (C : List ℕ) (k a b c i : ℕ) → same-node C k a b c i ≡ ifb (eqb (getD C (i * 8 + 3) 0) c) (ifb (eqb (getD C (i * 8 + 2) 0) b) (ifb (eqb (getD C (i * 8) 0) k) (eqb (getD C (i * 8 + 1) 0) a) false) false) false
+unfolding same-node cell-of all-eq
+node-by-third C k a b c i =
+    let p : Bool = eqb (getD C (i * 8) 0) k in
+    let q : Bool = eqb (getD C (i * 8 + 1) 0) a in
+    let r : Bool = eqb (getD C (i * 8 + 2) 0) b in
+    let s : Bool = eqb (getD C (i * 8 + 3) 0) c in
+    itself (ifb p (ifb q (ifb r s false) false) false) ∙ fourth-first p q r s true ∙ ap (λ t. ifb s (ifb r (ifb p t false) false) false) (sym (itself q))
 
 -- a run of stores, written with sums
 pub put-again : (S : List ℕ) (i a b : ℕ) → sets S (i + 4) (a ∷ b ∷ []) ≡ set (set S (i + 4) a) (i + 5) b

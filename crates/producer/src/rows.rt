@@ -11,7 +11,6 @@ use crate::state::Got;
 use crate::state::State;
 use ast::cells::Found;
 use ast::cells::quote;
-use ast::words::all_equal;
 use ast::words::put;
 use ast::words::succ;
 use ast::words::word;
@@ -250,18 +249,21 @@ pub fn row_start(i: u32) -> usize
     (i as usize) * 24
 }
 
-// Whether row `i` has the judgment's kind and arguments.
+// Whether row `i` has the judgment's kind and arguments. The third argument is looked at first: it tells most rows apart, and a search
+// goes through many.
 pub fn same_row(rows: &[u32], i: u32, kind: u32, a: u32, b: u32, c: u32, d: u32, e: u32) -> bool
     ensures { λ r. ⌜ r ≡ same-row (now (rows .entry)) kind a b c d e i ⌝ }
 {
     let at = row_start(i);
-    let it = word(rows, at + 19);
-    let first = word(rows, at + 13);
-    let second = word(rows, at + 14);
-    let third = word(rows, at + 15);
-    if all_equal(it, first, second, third, kind, a, b, c) {
-        if word(rows, at + 16) == d {
-            return word(rows, at + 17) == e;
+    if word(rows, at + 15) == c {
+        if word(rows, at + 14) == b {
+            if word(rows, at + 19) == kind {
+                if word(rows, at + 13) == a {
+                    if word(rows, at + 16) == d {
+                        return word(rows, at + 17) == e;
+                    }
+                }
+            }
         }
     }
     false
