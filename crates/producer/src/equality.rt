@@ -1,7 +1,7 @@
 // Equality: root reductions, normal forms, equal terms. With typing.rt these form one cycle of calls.
 ghost use mathlib.Core.Path.{_≡_};
 ghost use Rattle.producer.specs.Machine.{machine, end, end-2, end-step, end-round};
-ghost use Rattle.producer.specs.Equality.{beta, beta-row, at-end, pbeta, at-ends, reduce-papp, round, rounds, equal-normal};
+ghost use Rattle.producer.specs.Equality.{beta, beta-row, at-end, pbeta, reduce-papp, round, rounds};
 ghost use Rattle.producer.specs.Calls.{callees};
 use crate::codes;
 use crate::rows::cite1;
@@ -51,7 +51,7 @@ impl State {
                 return Reduced::Whole(s0);
             }
             kinds::PAPP => {
-                return s0.papp(down, rows, cells, d, g, t, cell.a, cell.b);
+                return s0.along(down, rows, cells, d, g, t, cell.a, cell.b);
             }
             _ => {}
         }
@@ -135,8 +135,8 @@ impl State {
         Reduced::Step(s3, out, ty, row)
     }
 
-    // A path that is applied to `r`.
-    pub fn papp(
+    // A papp: the path `p` along the interval `r`.
+    pub fn along(
         self,
         left: u32,
         rows: &mut [u32],
@@ -165,7 +165,19 @@ impl State {
         if let Shape::Plam(_, body) = shape {
             return s3.pbeta(left, rows, cells, d, g, t, r, body, ty, x, y);
         }
-        s3.sides(left, rows, cells, d, g, t, r, b, c, ty, x, y)
+        // Otherwise it is a side of its type, at a literal end alone.
+        let cell = read(cells, r);
+        let kind = cell.kind;
+        match kind {
+            kinds::I0 => {
+                return s3.at_end(left, rows, cells, d, g, t, b, ty, x, y, codes::EQ_P0);
+            }
+            kinds::I1 => {
+                return s3.at_end(left, rows, cells, d, g, t, c, ty, x, y, codes::EQ_P1);
+            }
+            _ => {}
+        }
+        Reduced::Whole(s3)
     }
 
     // A plam that is applied to `r`.
@@ -203,38 +215,6 @@ impl State {
             return q4.as_reduced();
         };
         Reduced::Step(s4, out, ty, row)
-    }
-
-    // A path that is no plam: at a literal end alone it is that side of its type.
-    pub fn sides(
-        self,
-        left: u32,
-        rows: &mut [u32],
-        cells: &mut [u32],
-        d: u32,
-        g: u32,
-        t: u32,
-        r: u32,
-        b: u32,
-        c: u32,
-        ty: u32,
-        x: u32,
-        y: u32,
-    ) -> Reduced
-        ensures { λ u. ⌜ end-step u (now (rows .exit)) (now (cells .exit)) ≡ at-ends (callees left) d g t r b c ty x y (machine (now (rows .entry)) (now (cells .entry)) self) ⌝ }
-    {
-        let cell = read(cells, r);
-        let kind = cell.kind;
-        match kind {
-            kinds::I0 => {
-                return self.at_end(left, rows, cells, d, g, t, b, ty, x, y, codes::EQ_P0);
-            }
-            kinds::I1 => {
-                return self.at_end(left, rows, cells, d, g, t, c, ty, x, y, codes::EQ_P1);
-            }
-            _ => {}
-        }
-        Reduced::Whole(self)
     }
 
     // The side `out` of a path's type.
@@ -373,7 +353,7 @@ impl State {
         }
     }
 
-    // The row that two terms are equal.
+    // The row that two terms are equal: by their quotes, or by those of their normal forms; refuses (13) where these differ too.
     pub fn equal(
         self,
         left: u32,
@@ -404,40 +384,23 @@ impl State {
             let refs = cite1(typed);
             return s2.emit_eq(rows, cells, codes::EQ_REFL, refs, d, g, a, b, ty);
         }
-        s2.apart(down, rows, cells, d, g, a, b, ty)
-    }
-
-    // Two terms with different quotes; refuses (13) where those of their normal forms differ too.
-    pub fn apart(
-        self,
-        left: u32,
-        rows: &mut [u32],
-        cells: &mut [u32],
-        d: u32,
-        g: u32,
-        a: u32,
-        b: u32,
-        ty: u32,
-    ) -> Got
-        ensures { λ r. ⌜ end r (now (rows .exit)) (now (cells .exit)) ≡ equal-normal (callees left) d g a b ty (machine (now (rows .entry)) (now (cells .entry)) self) ⌝ }
-    {
-        let q1 = self.normalize(left, rows, cells, d, g, a, ty);
-        let Two::Pair(s1, one, x) = q1 else {
-            return q1.as_got();
+        let q3 = s2.normalize(down, rows, cells, d, g, a, ty);
+        let Two::Pair(s3, one, x) = q3 else {
+            return q3.as_got();
         };
-        let q2 = s1.normalize(left, rows, cells, d, g, b, ty);
-        let Two::Pair(s2, other, y) = q2 else {
-            return q2.as_got();
+        let q4 = s3.normalize(down, rows, cells, d, g, b, ty);
+        let Two::Pair(s4, other, y) = q4 else {
+            return q4.as_got();
         };
         if same_quote(cells, one, other) {
             let reversed = cite1(y);
-            let q3 = s2.emit_eq(rows, cells, codes::EQ_SYM, reversed, d, g, other, b, ty);
-            let Got::Is(s3, z) = q3 else {
-                return q3;
+            let q5 = s4.emit_eq(rows, cells, codes::EQ_SYM, reversed, d, g, other, b, ty);
+            let Got::Is(s5, z) = q5 else {
+                return q5;
             };
             let refs = cite2(x, z);
-            return s3.emit_eq(rows, cells, codes::EQ_TRANS, refs, d, g, a, b, ty);
+            return s5.emit_eq(rows, cells, codes::EQ_TRANS, refs, d, g, a, b, ty);
         }
-        Got::Refused(s2, codes::QUOTES)
+        Got::Refused(s4, codes::QUOTES)
     }
 }

@@ -2,7 +2,7 @@
 // a reference function is entered with one less nesting left, and an arm of one keeps what is left.
 ghost use mathlib.Core.Path.{_≡_};
 ghost use Rattle.producer.specs.Machine.{machine, end, end-2, end-3, end-4, end-found};
-ghost use Rattle.producer.specs.Typing.{ctx-cons, retyped, exposed, converted, opened, as-pi, as-path, find-atom, find-var, find-pi, find-lam, find-app, ends, path-ends, find-path, plam-ends, find-plam, find-papp, find-compound, find, new-infer};
+ghost use Rattle.producer.specs.Typing.{exposed, converted, opened, as-pi, as-path, find-atom, find-var, find-pi, find-lam, find-app, ends, find-path, find-plam, find-papp, find};
 ghost use Rattle.producer.specs.Calls.{callees};
 use crate::codes;
 use crate::rows::cite0;
@@ -65,46 +65,30 @@ impl State {
                         0,
                     );
                 }
-                s0.extend(down, rows, cells, d, cell.quote, cell.a, cell.b)
+                let q1 = s0.ctx(down, rows, cells, d, cell.b);
+                let Got::Is(s1, x) = q1 else {
+                    return q1;
+                };
+                let q2 = s1.universe(down, rows, cells, d, cell.b, cell.a);
+                let Two::Pair(s2, _, y) = q2 else {
+                    return q2.as_got();
+                };
+                let refs = cite2(x, y);
+                s2.emit(
+                    rows,
+                    cells,
+                    codes::CTX_CONS,
+                    refs,
+                    codes::IS_CTX,
+                    2,
+                    d,
+                    cell.quote,
+                    0,
+                    0,
+                    0,
+                )
             }
         }
-    }
-
-    // A longer context, whose quote is `quote`.
-    pub fn extend(
-        self,
-        left: u32,
-        rows: &mut [u32],
-        cells: &mut [u32],
-        d: u32,
-        quote: u32,
-        a: u32,
-        g: u32,
-    ) -> Got
-        ensures { λ r. ⌜ end r (now (rows .exit)) (now (cells .exit)) ≡ ctx-cons (callees left) d quote a g (machine (now (rows .entry)) (now (cells .entry)) self) ⌝ }
-    {
-        let q1 = self.ctx(left, rows, cells, d, g);
-        let Got::Is(s1, x) = q1 else {
-            return q1;
-        };
-        let q2 = s1.universe(left, rows, cells, d, g, a);
-        let Two::Pair(s2, _, y) = q2 else {
-            return q2.as_got();
-        };
-        let refs = cite2(x, y);
-        s2.emit(
-            rows,
-            cells,
-            codes::CTX_CONS,
-            refs,
-            codes::IS_CTX,
-            2,
-            d,
-            quote,
-            0,
-            0,
-            0,
-        )
     }
 
     // The type with its head exposed, and the row that the term has it.
@@ -141,39 +125,20 @@ impl State {
         if same_quote(cells, normal, ty) {
             return Two::Pair(s3, normal, typed);
         }
-        s3.retyped(down, rows, cells, d, g, t, level, normal, typed, x)
-    }
-
-    // The term has the exposed type too.
-    pub fn retyped(
-        self,
-        left: u32,
-        rows: &mut [u32],
-        cells: &mut [u32],
-        d: u32,
-        g: u32,
-        t: u32,
-        level: u32,
-        normal: u32,
-        typed: u32,
-        equality: u32,
-    ) -> Two
-        ensures { λ r. ⌜ end-2 r (now (rows .exit)) (now (cells .exit)) ≡ retyped (callees left) d g t level normal typed equality (machine (now (rows .entry)) (now (cells .entry)) self) ⌝ }
-    {
-        let q1 = self.prepare(left, rows, cells, kinds::UNIVERSE, level, 0);
-        let Got::Is(s1, u) = q1 else {
-            return q1.as_two();
+        let q4 = s3.prepare(down, rows, cells, kinds::UNIVERSE, level, 0);
+        let Got::Is(s4, v) = q4 else {
+            return q4.as_two();
         };
-        let q2 = s1.check(left, rows, cells, d, g, normal, u);
-        let Got::Is(s2, formed) = q2 else {
-            return q2.as_two();
+        let q5 = s4.check(down, rows, cells, d, g, normal, v);
+        let Got::Is(s5, formed) = q5 else {
+            return q5.as_two();
         };
-        let refs = cite3(typed, equality, formed);
-        let q3 = s2.emit_has(rows, cells, codes::TYPE_CONV, refs, d, g, t, normal);
-        let Got::Is(s3, row) = q3 else {
-            return q3.as_two();
+        let refs = cite3(typed, x, formed);
+        let q6 = s5.emit_has(rows, cells, codes::TYPE_CONV, refs, d, g, t, normal);
+        let Got::Is(s6, row) = q6 else {
+            return q6.as_two();
         };
-        Two::Pair(s3, normal, row)
+        Two::Pair(s6, normal, row)
     }
 
     // The level of a type, and the row that it has it; refuses (11) a term that is no type.
@@ -404,35 +369,22 @@ impl State {
         let s0 = self.deeper(down);
         match recall(cells, s0.cells, d, g, t) {
             Recalled::Known(ty, row) => Two::Pair(s0, ty, row),
-            Recalled::Unknown => s0.fresh(down, rows, cells, d, g, t),
+            Recalled::Unknown => {
+                let q1 = s0.find(down, rows, cells, d, g, t);
+                let Inferred::Has(s1, ty, refs, rule) = q1 else {
+                    return q1.as_two();
+                };
+                let q2 = s1.emit_has(rows, cells, rule, refs, d, g, t, ty);
+                let Got::Is(s2, row) = q2 else {
+                    return q2.as_two();
+                };
+                let q3 = s2.remember(rows, cells, d, g, t, ty, row);
+                let Done::Ready(s3) = q3 else {
+                    return q3.as_two();
+                };
+                Two::Pair(s3, ty, row)
+            }
         }
-    }
-
-    // An inference that is not remembered: the type is found, its row made, and both are remembered.
-    pub fn fresh(
-        self,
-        left: u32,
-        rows: &mut [u32],
-        cells: &mut [u32],
-        d: u32,
-        g: u32,
-        t: u32,
-    ) -> Two
-        ensures { λ r. ⌜ end-2 r (now (rows .exit)) (now (cells .exit)) ≡ new-infer (callees left) d g t (machine (now (rows .entry)) (now (cells .entry)) self) ⌝ }
-    {
-        let q1 = self.find(left, rows, cells, d, g, t);
-        let Inferred::Has(s1, ty, refs, rule) = q1 else {
-            return q1.as_two();
-        };
-        let q2 = s1.emit_has(rows, cells, rule, refs, d, g, t, ty);
-        let Got::Is(s2, row) = q2 else {
-            return q2.as_two();
-        };
-        let q3 = s2.remember(rows, cells, d, g, t, ty, row);
-        let Done::Ready(s3) = q3 else {
-            return q3.as_two();
-        };
-        Two::Pair(s3, ty, row)
     }
 
     // The type of a term, the rows to cite and the rule.
@@ -452,58 +404,39 @@ impl State {
         match kind {
             kinds::UNIVERSE => {
                 let up = succ(cell.a);
-                return self.of_atom(left, rows, cells, d, g, kinds::UNIVERSE, up, codes::TYPE_U);
+                return self.atom(left, rows, cells, d, g, kinds::UNIVERSE, up, codes::TYPE_U);
             }
             kinds::VAR => {
-                return self.of_v(left, rows, cells, d, g, cell.a);
+                return self.var(left, rows, cells, d, g, cell.a);
             }
             kinds::NAT => {
-                return self.of_atom(left, rows, cells, d, g, kinds::UNIVERSE, 0, codes::TYPE_NAT);
+                return self.atom(left, rows, cells, d, g, kinds::UNIVERSE, 0, codes::TYPE_NAT);
             }
             kinds::ZERO => {
-                return self.of_atom(left, rows, cells, d, g, kinds::NAT, 0, codes::TYPE_ZERO);
+                return self.atom(left, rows, cells, d, g, kinds::NAT, 0, codes::TYPE_ZERO);
             }
-            _ => {}
-        }
-        self.find_of(left, rows, cells, d, g, cell)
-    }
-
-    // The same of a term that has parts.
-    pub fn find_of(
-        self,
-        left: u32,
-        rows: &mut [u32],
-        cells: &mut [u32],
-        d: u32,
-        g: u32,
-        cell: Cell,
-    ) -> Inferred
-        ensures { λ r. ⌜ end-found r (now (rows .exit)) (now (cells .exit)) ≡ find-compound (callees left) d g cell (machine (now (rows .entry)) (now (cells .entry)) self) ⌝ }
-    {
-        let kind = cell.kind;
-        match kind {
             kinds::PI => {
-                return self.of_pi(left, rows, cells, d, g, cell.a, cell.b);
+                return self.pi(left, rows, cells, d, g, cell.a, cell.b);
             }
             kinds::LAM => {
-                return self.of_lam(left, rows, cells, d, g, cell.a, cell.b);
+                return self.lam(left, rows, cells, d, g, cell.a, cell.b);
             }
             kinds::APP => {
-                return self.of_app(left, rows, cells, d, g, cell.a, cell.b);
+                return self.app(left, rows, cells, d, g, cell.a, cell.b);
             }
             kinds::PATH => {
-                return self.of_path(left, rows, cells, d, g, cell.a, cell.b, cell.c);
+                return self.path(left, rows, cells, d, g, cell.a, cell.b, cell.c);
             }
             kinds::PLAM => {
-                return self.of_plam(left, rows, cells, d, g, cell.a, cell.b);
+                return self.plam(left, rows, cells, d, g, cell.a, cell.b);
             }
             _ => {}
         }
-        self.of_papp(left, rows, cells, d, g, cell.a, cell.b)
+        self.papp(left, rows, cells, d, g, cell.a, cell.b)
     }
 
     // A universe, nat or zero: the type is a cell of the kind with the number.
-    pub fn of_atom(
+    pub fn atom(
         self,
         left: u32,
         rows: &mut [u32],
@@ -529,7 +462,7 @@ impl State {
     }
 
     // A variable has the type that the context gives it.
-    pub fn of_v(
+    pub fn var(
         self,
         left: u32,
         rows: &mut [u32],
@@ -553,7 +486,7 @@ impl State {
     }
 
     // A pi lies in the greater of its parts' universes.
-    pub fn of_pi(
+    pub fn pi(
         self,
         left: u32,
         rows: &mut [u32],
@@ -591,7 +524,7 @@ impl State {
     }
 
     // A lam has the pi from its annotation to the type of its body.
-    pub fn of_lam(
+    pub fn lam(
         self,
         left: u32,
         rows: &mut [u32],
@@ -632,7 +565,7 @@ impl State {
     }
 
     // An application has the codomain, with the argument put in.
-    pub fn of_app(
+    pub fn app(
         self,
         left: u32,
         rows: &mut [u32],
@@ -688,7 +621,7 @@ impl State {
     }
 
     // A path type lies in the universe of its family.
-    pub fn of_path(
+    pub fn path(
         self,
         left: u32,
         rows: &mut [u32],
@@ -714,49 +647,28 @@ impl State {
         let Two::Pair(s3, level, x2) = q3 else {
             return q3.as_inferred();
         };
-        s3.path_ends(left, rows, cells, d, g, a, b, c, level, x0, x1, x2)
-    }
-
-    // The ends of a path type are checked.
-    pub fn path_ends(
-        self,
-        left: u32,
-        rows: &mut [u32],
-        cells: &mut [u32],
-        d: u32,
-        g: u32,
-        a: u32,
-        b: u32,
-        c: u32,
-        level: u32,
-        x0: u32,
-        x1: u32,
-        x2: u32,
-    ) -> Inferred
-        ensures { λ r. ⌜ end-found r (now (rows .exit)) (now (cells .exit)) ≡ path-ends (callees left) d g a b c level x0 x1 x2 (machine (now (rows .entry)) (now (cells .entry)) self) ⌝ }
-    {
-        let q1 = self.ends(left, rows, cells, a);
-        let Four::Each(s1, low, high, x3, x4) = q1 else {
-            return q1.as_inferred();
-        };
-        let q2 = s1.check(left, rows, cells, d, g, b, low);
-        let Got::Is(s2, x5) = q2 else {
-            return q2.as_inferred();
-        };
-        let q3 = s2.check(left, rows, cells, d, g, c, high);
-        let Got::Is(s3, x6) = q3 else {
-            return q3.as_inferred();
-        };
-        let q4 = s3.intern(rows, cells, kinds::UNIVERSE, level, 0, 0);
-        let Got::Is(s4, ty) = q4 else {
+        let q4 = s3.ends(left, rows, cells, a);
+        let Four::Each(s4, low, high, x3, x4) = q4 else {
             return q4.as_inferred();
         };
+        let q5 = s4.check(left, rows, cells, d, g, b, low);
+        let Got::Is(s5, x5) = q5 else {
+            return q5.as_inferred();
+        };
+        let q6 = s5.check(left, rows, cells, d, g, c, high);
+        let Got::Is(s6, x6) = q6 else {
+            return q6.as_inferred();
+        };
+        let q7 = s6.intern(rows, cells, kinds::UNIVERSE, level, 0, 0);
+        let Got::Is(s7, ty) = q7 else {
+            return q7.as_inferred();
+        };
         let refs = cite7(x0, x1, x2, x3, x4, x5, x6);
-        Inferred::Has(s4, ty, refs, codes::TYPE_PATH)
+        Inferred::Has(s7, ty, refs, codes::TYPE_PATH)
     }
 
     // A plam has the path type between the ends of its body.
-    pub fn of_plam(
+    pub fn plam(
         self,
         left: u32,
         rows: &mut [u32],
@@ -785,52 +697,32 @@ impl State {
         let Got::Is(s4, x3) = q4 else {
             return q4.as_inferred();
         };
-        s4.plam_ends(left, rows, cells, d, g, a, body, x0, x1, x2, x3)
-    }
-
-    // The ends of a plam's body are checked against those of its family.
-    pub fn plam_ends(
-        self,
-        left: u32,
-        rows: &mut [u32],
-        cells: &mut [u32],
-        d: u32,
-        g: u32,
-        a: u32,
-        body: u32,
-        x0: u32,
-        x1: u32,
-        x2: u32,
-        x3: u32,
-    ) -> Inferred
-        ensures { λ r. ⌜ end-found r (now (rows .exit)) (now (cells .exit)) ≡ plam-ends (callees left) d g a body x0 x1 x2 x3 (machine (now (rows .entry)) (now (cells .entry)) self) ⌝ }
-    {
-        let q1 = self.ends(left, rows, cells, a);
-        let Four::Each(s1, a0, a1, x4, x5) = q1 else {
-            return q1.as_inferred();
-        };
-        let q2 = s1.ends(left, rows, cells, body);
-        let Four::Each(s2, t0, t1, x6, x7) = q2 else {
-            return q2.as_inferred();
-        };
-        let q3 = s2.check(left, rows, cells, d, g, t0, a0);
-        let Got::Is(s3, x8) = q3 else {
-            return q3.as_inferred();
-        };
-        let q4 = s3.check(left, rows, cells, d, g, t1, a1);
-        let Got::Is(s4, x9) = q4 else {
-            return q4.as_inferred();
-        };
-        let q5 = s4.intern(rows, cells, kinds::PATH, a, t0, t1);
-        let Got::Is(s5, ty) = q5 else {
+        let q5 = s4.ends(left, rows, cells, a);
+        let Four::Each(s5, a0, a1, x4, x5) = q5 else {
             return q5.as_inferred();
         };
+        let q6 = s5.ends(left, rows, cells, body);
+        let Four::Each(s6, t0, t1, x6, x7) = q6 else {
+            return q6.as_inferred();
+        };
+        let q7 = s6.check(left, rows, cells, d, g, t0, a0);
+        let Got::Is(s7, x8) = q7 else {
+            return q7.as_inferred();
+        };
+        let q8 = s7.check(left, rows, cells, d, g, t1, a1);
+        let Got::Is(s8, x9) = q8 else {
+            return q8.as_inferred();
+        };
+        let q9 = s8.intern(rows, cells, kinds::PATH, a, t0, t1);
+        let Got::Is(s9, ty) = q9 else {
+            return q9.as_inferred();
+        };
         let refs = cite10(x0, x1, x2, x3, x4, x5, x6, x7, x8, x9);
-        Inferred::Has(s5, ty, refs, codes::TYPE_PLAM)
+        Inferred::Has(s9, ty, refs, codes::TYPE_PLAM)
     }
 
     // A path that is applied has the family, with the interval put in.
-    pub fn of_papp(
+    pub fn papp(
         self,
         left: u32,
         rows: &mut [u32],
