@@ -51,7 +51,7 @@ fault 'no fault' '' '' ''
 fault "a lam's annotation is quoted" ast/src/cells.rt \
     '    if kind == kinds::LAM {' '    if kind == kinds::PLAM {'
 fault 'two premises are cited the wrong way round' producer/src/typing.rt \
-    '        let refs = cite2(x, y);' '        let refs = cite2(y, x);'
+    '                let refs = cite2(x, y);' '                let refs = cite2(y, x);'
 fault '20 while there is space' run/src/entry.rt \
     '        cellroom: cap(cells / 8, 4294967295),' '        cellroom: cap(cells / 9, 4294967295),'
 fault 'a refused conversion is not ended' producer/src/state.rt \
