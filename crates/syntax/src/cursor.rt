@@ -1,4 +1,5 @@
-// A run's bytes with the offset of a call in them. Each function over it is a walk by hand, so they are few and thin.
+// The run's reader: its bytes, and the offset of a call in them. Each function over it is a walk by hand, so they are few and thin:
+// `head` leaves the work to `read_head`, and `head_at` serves every caller that has plain parameters.
 ghost use mathlib.Core.Path.{_≡_};
 ghost use lib.ListN.{drop};
 ghost use Rattle.walk.specs.Reader.{read-head as walk-head};
@@ -12,11 +13,11 @@ pub struct Reader<'a> {
 }
 
 impl<'a> Reader<'a> {
-    // At the first call, past the nesting limit.
-    pub fn new(src: &'a [u8]) -> Reader<'a>
-        ensures { λ r. ⌜ (r .src ≡ src .entry) × (r .at ≡ 2) ⌝ }
+    // A run's bytes, at a call.
+    pub fn new(src: &'a [u8], at: usize) -> Reader<'a>
+        ensures { λ r. ⌜ (r .src ≡ src .entry) × (r .at ≡ at) ⌝ }
     {
-        Reader { src, at: 2 }
+        Reader { src, at }
     }
 
     // The head of the call here.
@@ -25,18 +26,11 @@ impl<'a> Reader<'a> {
     {
         read_head(self.src, self.at)
     }
-
-    // At another call.
-    pub fn moved(self, at: usize) -> Reader<'a>
-        ensures { λ r. ⌜ (r .src ≡ self .entry .src) × (r .at ≡ at) ⌝ }
-    {
-        Reader { src: self.src, at }
-    }
 }
 
-// The head of a run's first call, with plain parameters.
-pub fn first_head(s: &[u8]) -> Heading
-    ensures { λ h. ⌜ h ≡ head-of (walk-head (drop 2 (now (s .entry))) 2) ⌝ }
+// The head of the call at an offset.
+pub fn head_at(s: &[u8], at: usize) -> Heading
+    ensures { λ h. ⌜ h ≡ head-of (walk-head (drop at (now (s .entry))) at) ⌝ }
 {
-    Reader::new(s).head()
+    Reader::new(s, at).head()
 }

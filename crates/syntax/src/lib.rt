@@ -7,6 +7,7 @@ pub mod scan;
 
 pub use codes::call_codes;
 pub use cursor::Reader;
+pub use cursor::head_at;
 pub use limits::Size;
 pub use limits::size_call;
 pub use scan::Heading;

@@ -7,6 +7,7 @@ ghost use lib.ListN.{length};
 ghost use Rattle.walk.specs.Limits.{size-term as walk-size, size-terms as walk-sizes, size-call as walk-call};
 ghost use Rattle.syntax.specs.Told.{term-at, terms-at, call-at, short, size-in};
 ghost use Rattle.syntax.specs.Parts.{Counts, told-size};
+use super::cursor::head_at;
 use super::parts::INDEX;
 use super::parts::TERM;
 use super::parts::deeper;
@@ -14,7 +15,6 @@ use super::parts::parts_after;
 use super::parts::push;
 use super::scan::Heading;
 use super::scan::Next;
-use super::scan::read_head;
 use super::scan::skip_call;
 use super::scan::terms_of;
 use super::scan::wide;
@@ -110,7 +110,7 @@ fn count_call(s: &[u8], from: usize, stack: &mut [u8]) -> Counted
     requires { ⌜ 2 * length (now s) + 1 ≤ length (now stack) ⌝ }
     ensures { λ r. ⌜ Counts walk-call (call-at (now (s .entry)) from) r ⌝ }
 {
-    let head = read_head(s, from);
+    let head = head_at(s, from);
     match head {
         Heading::Bad(_) => Counted::Bad,
         Heading::Is(code, dims, size) => {

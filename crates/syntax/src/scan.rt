@@ -6,6 +6,7 @@ ghost use mathlib.Core.Option.{none};
 ghost use lib.ListN.{length, drop, getD};
 ghost use Rattle.walk.specs.Reader.{codes, read-head as walk-head, read-limit as walk-limit, read-calls};
 ghost use Rattle.syntax.specs.Told.{term-at, terms-at, call-at, short, next-in, head-of, terms-in, limit-of, counted, scanned};
+use super::cursor::head_at;
 use super::parts::TERM;
 use super::parts::parts_after;
 use super::parts::push;
@@ -99,6 +100,7 @@ pub fn terms_of(code: u8) -> usize
     }
 }
 
+// The head of the call at an offset: what a `Reader` reads.
 pub fn read_head(s: &[u8], from: usize) -> Heading
     ensures { λ r. ⌜ r ≡ head-of (walk-head (drop from (now (s .entry))) from) ⌝ }
 {
@@ -127,7 +129,7 @@ pub fn skip_call(s: &[u8], from: usize, stack: &mut [u8]) -> Next
     if stack.len() < 2 * s.len() + 1 {
         return Next::Short;
     }
-    let head = read_head(s, from);
+    let head = head_at(s, from);
     match head {
         Heading::Bad(p) => Next::Bad(p),
         Heading::Is(code, _, size) => {
