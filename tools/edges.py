@@ -5,13 +5,13 @@
     python3 tools/edges.py expect > crates/edges/stdout
     python3 tools/edges.py deep   > a run of one call that meets the nesting limit of 4,096
 
-`expect` reads crates/edges/stdin and asks the oracle (tools/oracle/build.sh makes it) for each case. What document 01 says of a
-case stands in SAID below: where the oracle says otherwise, nothing is written and the command fails. That words past the used
-ones stay is document 01's rule, and the oracle has no words: `stay` is written for all.
+`expect` reads crates/edges/stdin and asks the oracle (tools/oracle/build.sh makes it) for each case. What is wanted of some cases
+stands in SAID below: where the oracle says otherwise, nothing is written and the command fails. That words past the used ones stay
+is document 01's rule, and the oracle has no words: `stay` is written for all.
 
 The last run has 1,586 bytes. With a table of 32,401 rows and a store of 19,723 cells it uses both up to the last, and the call is
-refused with 19, deepest 4,096; a smaller table or store gives 18 or 20. The program has no room for it on the stack beside the
-tables (crates/edges/src/main.rt), so it is played by the oracle, or by the library over tables from elsewhere.
+refused with 19, deepest 4,096; a smaller table or store gives 18 or 20. `edges` has no room for it on the stack beside its tables
+(crates/edges/src/main.rt): the program `deepest` plays it.
 """
 import os
 import subprocess
@@ -104,7 +104,7 @@ FIRST = run(100, CHECK)
 
 
 def document_01():
-    say('The lines of document 01, "Calls on each side of an edge", in its order. Those that have more than one run have a number.')
+    say('The lines of document 01, "Calls on each side of an edge", in its order.')
     case('first', FIRST)
     case('again', run(100, CHECK, CHECK))
     case('variable', run(100, call(2, 0, [NAT], [v(0)])))
@@ -268,6 +268,8 @@ def walks():
     case('beta-limit-8', run(8, call(4, 0, [], [app(lam(NAT, v(0)), ZERO), NAT])))
     say('A call that nests more than 4,096 deep (see `deep` in tools/edges.py), with the limit 1,024.')
     case('limit-1024-met', run(1024, deep(7, 5, 5)), (12652 * 24, 7779 * 8, 4))
+    say('The sample that README.md plays.')
+    case('six-calls', open(os.path.join(ROOT, 'samples/six-calls'), 'rb').read())
 
 
 def wrapped(*heights):
@@ -300,7 +302,8 @@ def deep(steps, conversions, height):
     return call(3, 0, context, [ZERO, papp(app(app(v(2), v(1)), foot), I0)])
 
 
-# --- what document 01 says: of a run, number, calls and rows where it says so; of its last call, number, row, result, deepest
+# --- what is wanted: what document 01 says of the case, or what follows from its rules; the last two cases it does not have.
+# Of a run: number, place, calls, rows, cells, repeats; then of its last call, or of its last two: number, row, result, deepest.
 
 ANY = None
 SAID = {
@@ -319,14 +322,14 @@ SAID = {
     'neg-i1': ((0, 0, 1, ANY, ANY, 0), (0, ANY, '(papp (v 0) (neg i1))', ANY)),
     'three-cells': ((0, 0, 1, 2, 3, 0), (20, '-', '-', ANY)),
     'limit-2': ((0, 0, 1, 0, ANY, 0), (19, '-', '-', 2)),
-    'header-alone': ((0, 0, 0, 0, 0, 0), None),
+    'header-alone': ((0, 0, 0, 0, 0, 0),),
     'index-32': ((0, 0, 1, ANY, ANY, 0), (0, ANY, ANY, ANY)),
     'index-33': ((0, 0, 1, 0, 0, 0), (7, '-', '-', 0)),
     'depth-32': ((0, 0, 1, ANY, ANY, 0), (0, ANY, ANY, ANY)),
     'depth-33': ((0, 0, 1, 0, 0, 0), (6, '-', '-', 0)),
     'reductions-32': ((0, 0, 1, ANY, ANY, 0), (0, ANY, ANY, ANY)),
     'reductions-33': ((0, 0, 1, ANY, ANY, 0), (15, '-', '-', ANY)),
-    'rows-50000': ((0, 0, 479, 50000, ANY, ANY), (18, '-', '-', ANY)),
+    'rows-50000': ((0, 0, 479, 50000, ANY, ANY), (0, 1, '-', 2), (18, '-', '-', ANY)),
     'limit-1-met': ((0, 0, 2, 1, ANY, 0), (0, 0, '-', 1)),
     'limit-1024-met': ((0, 0, 1, ANY, ANY, 0), (19, '-', '-', 1024)),
 }
@@ -407,7 +410,7 @@ def answered(slices, data):
     return (0, 0, len(calls), rows, cells, repeats), calls
 
 
-def last_call(line):
+def fields(line):
     _, number, row, rest = line.split(' ', 3)
     result, deepest = rest.rsplit(' ', 1)
     return (int(number), row if row == '-' else int(row), result, int(deepest))
@@ -424,12 +427,12 @@ def write_expected():
         out += ['call ' + c for c in calls[-SHOWN:]]
         if name in SAID:
             left.remove(name)
-            run_said, call_said = SAID[name]
-            got = last_call(calls[-1]) if calls else None
-            if not fits(run_said, numbers) or (call_said and not fits(call_said, got)):
-                sys.exit('%s: document 01 has %s, the oracle %s %s' % (name, SAID[name], numbers, got))
+            said = SAID[name]
+            got = (numbers,) + tuple(fields(c) for c in calls[len(calls) + 1 - len(said):])
+            if len(got) != len(said) or not all(map(fits, said, got)):
+                sys.exit('%s: wanted is %s, the oracle has %s' % (name, said, got))
     if left:
-        sys.exit('document 01 speaks of cases that are not there: %s' % sorted(left))
+        sys.exit('cases that are not there: %s' % sorted(left))
     print('\n'.join(out))
 
 

@@ -2,7 +2,7 @@
 
 # Further names to unfold.
 UNFOLD = {
-    'call': 'called-in',
+    'call': 'called-in headed',
     'step': 'turned-by',
     'play-run': 'run-by read-run',
     'emit': 'known-row known-or new-row add-row',
@@ -51,7 +51,6 @@ def search_up(test, predicate):
 
 HAND = {
     'byte': {'use': ['use lib.ListN.{List·getD-eq-default}'], 'over': {'returns-2': 'sym (List·getD-eq-default (c .before .before .args .bytes .now) 0 (c .if1 .left))'}},
-    'run-derivations': {'first': ['put-five _ _ _ _ _ _']},
     'put-answer': {'first': ['put-four _ _ _ _ _ _']},
     'put': {'use': ['use lib.Seq.{set-out}'], 'over': {'returns-2': 'sym (set-out _ _ _ (c .if1 .left))'}},
     'word': {'use': ['use lib.ListN.{List·getD-eq-default}'], 'over': {'returns-2': 'sym (List·getD-eq-default (c .before .args .words .now) 0 (c .if1 .left))'}},

@@ -1,14 +1,15 @@
 #!/bin/sh
 # Breaks copies of the program, one line each, and sees that the comparison and
 # `replay` catch every one; and that both pass the copy that is not broken.
-#   tools/compare/faults.sh [SOURCE_FOLDER]
+#   tools/compare/faults.sh SOURCE_FOLDER
+# SOURCE_FOLDER, or else ORACLE_SOURCE, is the oracle's (tools/oracle/build.sh).
 # Nothing is proved here: the copies are compiled as `rt try` does. The
 # interpreter's own verdict on `replay` is left out: it stops after 10,000,000
 # steps, and the stored runs take more.
 set -eu
 here=$(cd "$(dirname "$0")" && pwd)
 root=$(cd "$here/../.." && pwd)
-source=$(cd "${1:-$root/../shared/docs/src}" && pwd)
+source=$(cd "${1:-${ORACLE_SOURCE:?is not set, and no folder of the source is given (tools/oracle/README.md)}}" && pwd)
 work=$(mktemp -d)
 trap 'rm -rf "$work"' EXIT
 failed=0
@@ -53,7 +54,7 @@ fault "a lam's annotation is quoted" ast/src/cells.rt \
 fault 'two premises are cited the wrong way round' producer/src/typing.rt \
     '                let refs = cite2(x, y);' '                let refs = cite2(y, x);'
 fault '20 while there is space' run/src/entry.rt \
-    '        cellroom: cap(cells / 8, 4294967295),' '        cellroom: cap(cells / 9, 4294967295),'
+    '    let cellroom = cap(cells / 8, 4294967295);' '    let cellroom = cap(cells / 9, 4294967295);'
 fault 'a refused conversion is not ended' producer/src/state.rt \
     '            Got::Refused(s.converting(n), e)' '            Got::Refused(s, e)'
 [ "$failed" -eq 0 ] && echo "every fault is caught"

@@ -5,7 +5,6 @@
 ghost use mathlib.Core.Path.{_≡_};
 ghost use mathlib.Core.List.{[], _∷_};
 ghost use Prim.Native.Nat.{_+_, _*_};
-ghost use lib.ListN.{getD};
 ghost use lib.Seq.{sets};
 ghost use Rattle.ast.specs.Cells.{cell-of, quote-of, same-quote-of, shape-of, pairs, look-1, look-2, look-3, same-node, same-look, first-of, lowest-of, recall-of};
 use crate::kinds;

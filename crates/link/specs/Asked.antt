@@ -2,7 +2,7 @@
 use Prim.Native.Nat.{ℕ, _/_, min}
 use mathlib.Core.List.{List, [], _∷_, _++_}
 use lib.ListN.{length, drop}
-use Rattle.producer.specs.Machine.{Machine, machine, Result, is, not, W, _>>=_, intern, make-universe, make-var, make-nat, make-pi, make-lam, make-app, make-path, make-plam, make-papp, make-i0, make-i1, make-dim, make-neg, make-meet, make-join, make-nil, make-cons}
+use Rattle.producer.specs.Machine.{Machine, machine, new-state, fresh, Result, is, not, W, _>>=_, intern, make-universe, make-var, make-nat, make-pi, make-lam, make-app, make-path, make-plam, make-papp, make-i0, make-i1, make-dim, make-neg, make-meet, make-join, make-nil, make-cons}
 use Rattle.producer.specs.Callees.{Callees}
 use Rattle.producer.specs.Calls.{callees}
 use Rattle.walk.specs.Syntax.{Interval, I0, I1, Dim, Neg, Meet, Join, Term, Universe, Var, Nat, Zero, Pi, Lam, App, Path, PathLam, PathApp, Context, Nil, Cons}
@@ -80,7 +80,7 @@ turned n = record { number = n; row = 4294967295; result = 0; deepest = 0 }
 
 -- deepest starts from 0
 unfoldable pub afresh : Machine → Machine
-afresh w = machine (w .rows) (w .cells) (record { rows = w .state .rows; cells = w .state .cells; conversions = w .state .conversions; deepest = 0; limit = w .state .limit; rowroom = w .state .rowroom; cellroom = w .state .cellroom })
+afresh w = machine (w .rows) (w .cells) (fresh (w .state))
 
 unfoldable pub ask-sized : Sized → Call → Machine → Said × Machine
 ask-sized scope-over call w = (turned 5, w)
@@ -98,7 +98,7 @@ ask-all (call ∷ calls) w =
 
 -- from no rows and no cells, whatever the slices hold
 unfoldable pub start : ℕ → List ℕ → List ℕ → Machine
-start limit rows cells = machine rows cells (record { rows = 0; cells = 0; conversions = 0; deepest = 0; limit = limit; rowroom = min 50000 (length rows / 24); cellroom = min 4294967295 (length cells / 8) })
+start limit rows cells = machine rows cells (new-state limit (min 50000 (length rows / 24)) (min 4294967295 (length cells / 8)))
 
 -- the words of the answers, and a slice that they are written over
 unfoldable pub four-words : List Said → List ℕ

@@ -137,15 +137,22 @@ module _ {xs : List Thing} {ws : List ℕ} (rest : List ℕ) (cs : Cells xs ws) 
 
   -- any cell
   memory-back : {n d : ℕ} {g : Context} {t : Term} → Nth n (inference (key d g t)) xs → Memory-cell (length xs) (ws ++ rest) n d g t
-  memory-back {n} {d} {g} {t} h = let r = read rest h cs in go (r .is) (r .at) (r .under)
+  memory-back {n} {d} {g} {t} h = let r = read rest h cs in go (r .is) (r .at) (r .place) (r .under)
     where
-      go : {ys : List Thing} {bs : List ℕ} → Block ys (inference (key d g t)) bs → ((k : ℕ) → k < 8 → getD (ws ++ rest) (n * 8 + k) 0 ≡ getD bs k 0) → Extends (inference (key d g t) ∷ ys) xs → Memory-cell (length xs) (ws ++ rest) n d g t
-      go (plain s w) f e = absurd (s-plain s .1)
-      go (remembered a b) f e =
+      go : {ys : List Thing} {bs : List ℕ} → Block ys (inference (key d g t)) bs → ((k : ℕ) → k < 8 → getD (ws ++ rest) (n * 8 + k) 0 ≡ getD bs k 0) → n ≡ length ys → Extends (inference (key d g t) ∷ ys) xs → Memory-cell (length xs) (ws ++ rest) n d g t
+      go (plain s w) f q e = absurd (s-plain s .1)
+      go {ys} (remembered {g = i} {t = j} a b) f q e =
           let u = extends-trans (more same) e in
           let x = nth-lift u (cell-nth a) in
           let y = nth-lift u (cell-nth b) in
-          record { kind = rw add-zero at (f 0 (lit< tt)); dims = f 1 (lit< tt); scope = rw (f 2 (lit< tt)) (scope-back (length xs) _ g (nth-below x) x); of = rw (f 3 (lit< tt)) (term-back (length xs) _ t (nth-below y) y) }
+          let k : i < n = let l = nth-below (cell-nth a) in omega arith in
+          let m : j < n = let l = nth-below (cell-nth b) in omega arith in
+          record {
+            kind = rw add-zero at (f 0 (lit< tt));
+            dims = f 1 (lit< tt);
+            scope = rw (f 2 (lit< tt)) (lowered (scope-at (length xs) (ws ++ rest)) k (scope-back (length xs) _ g (nth-below x) x));
+            of = rw (f 3 (lit< tt)) (lowered (term-at (length xs) (ws ++ rest)) m (term-back (length xs) _ t (nth-below y) y));
+          }
 
   thing-back : (n : ℕ) (x : Thing) → Nth n x xs → Holds-thing (length xs) (ws ++ rest) n x
   thing-back n (term t) h = term-back (length xs) n t (nth-below h) h

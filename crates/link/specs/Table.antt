@@ -9,10 +9,11 @@ use lib.ListN.{length, getD, take, replicate}
 use lib.Dec.{ltb}
 use Rattle.walk.specs.Syntax.{Interval, I0, I1, Dim, Neg, Meet, Join, Term, Universe, Var, Nat, Zero, Pi, Lam, App, Path, PathLam, PathApp, Context, Nil, Cons, Quote, u, v, nat, zero, pi, lam, app, path, plam, papp, Quotes, nil, cons, quote}
 use Rattle.walk.specs.Judgment.{Judgment, ctx, dshiftctx, lookup, lt, le, max, interval, ishift, isubst, shift, subst, dshift, dsubst, has, eq}
-use Rattle.walk.specs.Reader.{Kind, k-u, k-v, k-nat, k-zero, k-pi, k-lam, k-app, k-path, k-plam, k-papp, IKind, k-0, k-1, k-dim, k-neg, k-meet, k-join, kinds, ikinds}
+use Rattle.walk.specs.Reader.{Kind, k-u, k-v, k-nat, k-zero, k-pi, k-lam, k-app, k-path, k-plam, k-papp, IKind, k-0, k-1, k-dim, k-neg, k-meet, k-join, kinds, ikinds, Call}
 use Rattle.walk.specs.State.{Row, Thing, term, inference, key}
 use Rattle.walk.specs.State as S
 use Rattle.walk.specs.Run.{Result, no-result, a-level, a-term, Answer}
+use Rattle.walk.specs.Demand.{At, judgment-of}
 
 infixl 20 _>>=_
 unfoldable pub _>>=_ : {A B : Type 0} → Option A → (A → Option B) → Option B
@@ -224,6 +225,19 @@ pub data Answer-at (a : Answer) : ℕ → List Answer → Type 0 where
   this-answer : {answers : List Answer} → Answer-at a 0 (a ∷ answers)
   later-answer : {k : ℕ} {b : Answer} {answers : List Answer} → Answer-at a k answers → Answer-at a (suc k) (b ∷ answers)
 
+-- call k is c
+pub data Call-at (c : Call) : ℕ → List Call → Type 0 where
+  this-call : {calls : List Call} → Call-at c 0 (c ∷ calls)
+  later-call : {k : ℕ} {b : Call} {calls : List Call} → Call-at c k calls → Call-at c (suc k) (b ∷ calls)
+
+-- over n cells, the row that the words of answer k name states the judgment of the call, with the result that they name
+pub record States (n : ℕ) (C A : List ℕ) (table : List Row) (k : ℕ) (c : Call) : Type 0 where
+  pub result : Result
+  pub named : Result-word n C (getD A (k * 4 + 2) 0) result
+  pub judgment : Judgment
+  pub judged : judgment-of c result ≡ some judgment
+  pub states : At (getD A (k * 4 + 1) 0) judgment table
+
 -- what stands in the words of a cell
 
 -- Terms and contexts with a lam's and a plam's annotation, as the walk counts them.
@@ -251,12 +265,12 @@ unfoldable pub scope-at : ℕ → List ℕ → ℕ → Option Context
 scope-at ℕ.zero C n = none
 scope-at (ℕ.suc f) C n = getD ckinds (kind-word C n) none >>= λ k. scope-by (lower n (scope-at f C)) (lower n (term-at f C)) k (part 1 C n) (part 2 C n)
 
--- A remembered inference is 40 with its dimensions, its context and its term.
+-- A remembered inference is 40 with its dimensions, and the cells of its context and its term, which are lower than its own.
 pub record Memory-cell (n : ℕ) (C : List ℕ) (i d : ℕ) (g : Context) (t : Term) : Type 0 where
   pub kind : kind-word C i ≡ 40
   pub dims : part 1 C i ≡ d
-  pub scope : scope-at n C (part 2 C i) ≡ some g
-  pub of : term-at n C (part 3 C i) ≡ some t
+  pub scope : lower i (scope-at n C) (part 2 C i) ≡ some g
+  pub of : lower i (term-at n C) (part 3 C i) ≡ some t
 
 -- cell i of n holds what the walk counted
 abbrev pub Holds-thing : ℕ → List ℕ → ℕ → Thing → Type 0

@@ -149,7 +149,7 @@ refused-words rows cells answers n place = record {
 }
 
 -- the answer slice has four words for each call that is read
-answers-fit : (row-words cell-words answer-words : ℕ) (bytes : List ℕ) → 4 * length (run row-words cell-words answer-words bytes .calls) ≤ answer-words
+pub answers-fit : (row-words cell-words answer-words : ℕ) (bytes : List ℕ) → 4 * length (run row-words cell-words answer-words bytes .calls) ≤ answer-words
 unfolding run run-read
 answers-fit row-words cell-words answer-words bytes = go (ltb row-words 24 || ltb cell-words 8) (ltb 65536 (length bytes)) (read-run bytes)
   where

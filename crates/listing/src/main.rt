@@ -1,9 +1,11 @@
-// The listing of one run from standard input: 682 rows, 2,048 cells, 4,096 answers.
+// The listing of one run from standard input: 682 rows, 2,048 cells, 4,096 answers. Its text goes out through windows: the first is
+// small, so that a short listing takes several too, and each is twice the one before, up to the buffer.
+ghost use Prim.Native.Nat.{_≤_};
 use libc::STDOUT_FILENO;
 use text::Piece;
 use text::RunAnswer;
 
-// The part of the listing from `from` on that fits the buffer; whether there is more.
+// The part of the listing from `from` on, `size` bytes at most; whether there is more.
 fn turn(
     run: RunAnswer,
     codes: &[u8],
@@ -11,7 +13,10 @@ fn turn(
     rows: &[u32],
     cells: &[u32],
     from: usize,
-) -> bool {
+    size: usize,
+) -> bool
+    requires { ⌜ size ≤ 65536 ⌝ }
+{
     let mut buf = [0u8; 65536];
     let seen = text::window(
         Piece::Listing,
@@ -22,7 +27,7 @@ fn turn(
         cells,
         from,
         1,
-        &mut buf,
+        &mut buf[..size],
     );
     io::write_all(STDOUT_FILENO, &buf[..seen.put]);
     seen.left != 0
@@ -30,9 +35,11 @@ fn turn(
 
 fn show(run: RunAnswer, codes: &[u8], answers: &[u32], rows: &[u32], cells: &[u32]) {
     let mut from: usize = 0;
-    while from < 4294967296 {
-        if turn(run, codes, answers, rows, cells, from) {
-            from += 65536;
+    let mut size: usize = 64;
+    while from < 9223372036854775808 {
+        if turn(run, codes, answers, rows, cells, from, size) {
+            from += size;
+            size = if size < 32768 { 2 * size } else { 65536 };
         } else {
             return;
         }

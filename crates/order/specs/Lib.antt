@@ -8,6 +8,7 @@ pub mod Bound
 pub mod Sent
 pub mod Never
 pub mod Later
+pub mod Refusals
 pub mod Counts
 pub mod Theorem
 pub mod Call

@@ -49,6 +49,14 @@ pub record Machine : Type 0 where
 abbrev pub machine : List ℕ → List ℕ → State → Machine
 machine R C s = record { rows = R; cells = C; state = s }
 
+-- no rows, cells or memory, with a nesting limit and room for so many rows and cells
+abbrev pub new-state : (limit rowroom cellroom : ℕ) → State
+new-state limit rowroom cellroom = record { rows = 0; cells = 0; conversions = 0; deepest = 0; limit = limit; rowroom = rowroom; cellroom = cellroom }
+
+-- deepest starts from 0 in each call
+abbrev pub fresh : State → State
+fresh s = record { rows = s .rows; cells = s .cells; conversions = s .conversions; deepest = 0; limit = s .limit; rowroom = s .rowroom; cellroom = s .cellroom }
+
 -- what a step ends in
 pub data Result (A : Type 0) : Type 0 where
   is : A → Machine → Result A

@@ -1,7 +1,7 @@
 // The producer's counts, which travel by value through methods that give them back, and the methods' answers.
 // Every method of `State` that may be refused takes both lent slices, so that all contracts speak of one machine.
 ghost use mathlib.Core.Path.{_≡_};
-ghost use Rattle.producer.specs.Machine.{deeper-of, conversions-of, ended-1, ended-2, end-0, machine};
+ghost use Rattle.producer.specs.Machine.{new-state, fresh, deeper-of, conversions-of, ended-1, ended-2, end-0, machine};
 ghost use Rattle.producer.specs.Calls.{callees};
 use crate::codes;
 use crate::rows::Refs;
@@ -22,7 +22,7 @@ pub struct State {
     pub cellroom: u32,
 }
 
-// A count, or a refusal.
+// The state alone, or a refusal.
 pub enum Done {
     Ready(State),
     Refused(State, u32),
@@ -79,6 +79,29 @@ pub enum Round {
 }
 
 impl State {
+    // No rows, cells or memory, with a nesting limit and room for so many rows and cells.
+    pub fn new(limit: u32, rowroom: u32, cellroom: u32) -> State
+        ensures { λ r. ⌜ r ≡ new-state limit rowroom cellroom ⌝ }
+    {
+        State {
+            rows: 0,
+            cells: 0,
+            conversions: 0,
+            deepest: 0,
+            limit,
+            rowroom,
+            cellroom,
+        }
+    }
+
+    // A call is about to be walked: deepest starts from 0.
+    pub fn begin(mut self) -> State
+        ensures { λ r. ⌜ r ≡ fresh self ⌝ }
+    {
+        self.deepest = 0;
+        self
+    }
+
     // One level in, with `left` levels below it.
     pub fn deeper(mut self, left: u32) -> State
         ensures { λ r. ⌜ r ≡ deeper-of self left ⌝ }

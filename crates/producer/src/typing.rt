@@ -23,7 +23,6 @@ use crate::state::Two;
 use crate::state::ended_got;
 use crate::state::ended_two;
 use crate::transforms::Op;
-use ast::cells::Cell;
 use ast::cells::Found;
 use ast::cells::Recalled;
 use ast::cells::Shape;

@@ -3,7 +3,6 @@
 mod tables;
 
 ghost use mathlib.Core.Path.{_≡_};
-ghost use Prim.Native.Nat.{ℕ};
 ghost use lib.ListN.{length, getD};
 ghost use Rattle.rules.specs.Names.{rule-name, judgment-name, node-name, name-of};
 ghost use Rattle.rules.specs.Kinds.{kind-of, sorts-of, sort-of, part-of};

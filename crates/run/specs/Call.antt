@@ -2,11 +2,16 @@
 use Prim.Native.Nat.{ℕ}
 use mathlib.Core.List.{List}
 use lib.Dec.{eqb}
+use lib.ListN.{drop}
 use Rattle.ast.specs.Words.{up}
-use Rattle.producer.specs.Machine.{W, _>>=_, give, when_then_else_, intern}
+use Rattle.producer.specs.Machine.{W, _>>=_, give, stop, when_then_else_, intern}
 use Rattle.producer.specs.Callees.{prepared}
 use Rattle.producer.specs.Calls.{callees}
-use Rattle.run.specs.Build.{byte-at, built, scoped}
+use Rattle.walk.specs.Reader.{read-head}
+use Rattle.syntax.specs.declared.scan.Heading.{Heading}
+use Rattle.syntax.specs.declared.scan.Heading.the-variants.{Is, Bad}
+use Rattle.syntax.specs.Told.{head-of}
+use Rattle.run.specs.Build.{built, scoped}
 
 -- a row with no result, and a result before its row
 unfoldable pub row-alone : W ℕ → W (ℕ × ℕ)
@@ -43,12 +48,20 @@ by-code left bytes at code d g =
           (when eqb code 2 then row-first (callees left .infer d g t)
           else with-term left bytes next code d g t))
 
--- the call at an offset, with `left` entries allowed: the function is entered, then its arguments are made
-unfoldable pub called-in : ℕ → List ℕ → ℕ → W (ℕ × ℕ)
-called-in left bytes at = do
+-- the function is entered, then its arguments are made: the context first, so many types that start at an offset
+unfoldable pub with-context : ℕ → List ℕ → (at code d count : ℕ) → W (ℕ × ℕ)
+with-context left bytes at code d count = do
   nil ← prepared (callees left) (intern 32 0 0 0)
-  (g, terms) ← scoped (byte-at bytes (up (up at))) bytes (up (up (up at))) nil
-  by-code left bytes terms (byte-at bytes at) (byte-at bytes (up at)) g
+  (g, terms) ← scoped count bytes at nil
+  by-code left bytes terms code d g
+
+-- the call at an offset, with `left` entries allowed: in a run that was read, no head is bad
+unfoldable pub headed : Heading → ℕ → List ℕ → ℕ → W (ℕ × ℕ)
+headed (Is code d count) left bytes at = with-context left bytes (up (up (up at))) code d count
+headed (Bad place) left bytes at = stop 3
+
+unfoldable pub called-in : ℕ → List ℕ → ℕ → W (ℕ × ℕ)
+called-in left bytes at = headed (head-of (read-head (drop at bytes) at)) left bytes at
 
 -- the whole limit is left
 unfoldable pub called : List ℕ → ℕ → W (ℕ × ℕ)

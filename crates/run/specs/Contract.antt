@@ -11,8 +11,8 @@ use Rattle.walk.specs.State.{Row, Thing}
 use Rattle.walk.specs.Reader.{Call}
 use Rattle.walk.specs.Run.{Answer, play-all, start}
 use Rattle.walk.specs.Run as W
-use Rattle.walk.specs.Demand.{At, Row-at, Derivation-order, Distinct, Derives, cut, Extends, All-stated}
-use Rattle.link.specs.Table.{table-at, Answer-at, Answer-words, Row-words, Among, Cell-of, Thing-of}
+use Rattle.walk.specs.Demand.{At, Row-at, Derivation-order, Distinct, Derives, cut, Extends}
+use Rattle.link.specs.Table.{table-at, Answer-at, Answer-words, Call-at, States, Row-words, Among, Cell-of, Thing-of}
 use Rattle.run.specs.declared.entry.Ran.{Ran}
 
 -- the definition's run of these bytes, in slices of these lengths
@@ -24,14 +24,14 @@ abbrev pub numbers-of : W.Ran → Ran
 numbers-of ran = record { number = ran .number; place = ran .place; calls = length (ran .calls); rows = length (ran .last .rows); cells = length (ran .last .cells) }
 
 -- Demand 3 of the table that stands in the slices after the run, read from the words, judgments by quote.
-pub record Derived (bytes rows cells answers : List ℕ) (r : Ran) (rows′ cells′ : List ℕ) : Type 0 where
+pub record Derived (bytes rows cells answers : List ℕ) (r : Ran) (rows′ cells′ answers′ : List ℕ) : Type 0 where
   pub table : List Row
   pub read : table-at (r .rows) (r .cells) rows′ cells′ ≡ some table
   -- every row follows by the rule it names from exactly the rows it cites, all with lower numbers; no judgment has two rows
   pub order : Derivation-order table
   pub distinct : Distinct table
-  -- every accepted call's row states that call's judgment
-  pub stated : All-stated table (walked bytes rows cells answers .calls) (walked bytes rows cells answers .answers)
+  -- every accepted call's row states that call's judgment, as the words of its answer name number, row and result
+  pub stated : (k : ℕ) (c : Call) → Call-at c k (walked bytes rows cells answers .calls) → getD answers′ (k * 4) 0 ≡ 0 → States (r .cells) cells′ answers′ table k c
   -- the same of the table cut after any row: it derives every judgment left in it, and what rows 0 to n state is left
   pub cut-order : (n : ℕ) → Derivation-order (cut n table)
   pub cut-distinct : (n : ℕ) → Distinct (cut n table)
@@ -43,17 +43,21 @@ pub record Derived (bytes rows cells answers : List ℕ) (r : Ran) (rows′ cell
 -- r is what the entry answers; rows′, cells′ and answers′ are the slices after it
 pub record Runs (bytes rows cells answers : List ℕ) (r : Ran) (rows′ cells′ answers′ : List ℕ) : Type 0 where
   pub numbers : r ≡ numbers-of (walked bytes rows cells answers)
-  -- an answer a call, with its four words
+  -- one answer for each call, with its four words
   pub answer-count : length (walked bytes rows cells answers .answers) ≡ r .calls
   pub each-answer : (k : ℕ) (a : Answer) → Answer-at a k (walked bytes rows cells answers .answers) → Answer-words (r .cells) cells′ answers′ k a
   -- the table: as it is read back, and word for word but for the working words
   pub table : table-at (r .rows) (r .cells) rows′ cells′ ≡ some (walked bytes rows cells answers .last .rows)
   pub each-row : (i : ℕ) (row : Row) → Row-at i row (walked bytes rows cells answers .last .rows) → Row-words (r .cells) rows′ cells′ i row
   -- the cells: each thing that the walk counted has one, and no other is in use
+  -- (by what it reads back as: of unused parts and of words 4 to 7, where an inference has its type and row, nothing is said)
   pub each-cell : (x : Thing) → Among x (walked bytes rows cells answers .last .cells) → Cell-of (r .cells) cells′ x
   pub each-thing : (i : ℕ) → i < r .cells → Thing-of (r .cells) cells′ (walked bytes rows cells answers .last .cells) i
-  pub derived : Derived bytes rows cells answers r rows′ cells′
-  -- words past the used ones stay
+  pub derived : Derived bytes rows cells answers r rows′ cells′ answers′
+  -- what is used lies in the slices; words past it stay
+  pub rows-fit : r .rows * 24 ≤ length rows′
+  pub cells-fit : r .cells * 8 ≤ length cells′
+  pub answers-fit : r .calls * 4 ≤ length answers′
   pub rows-length : length rows′ ≡ length rows
   pub cells-length : length cells′ ≡ length cells
   pub answers-length : length answers′ ≡ length answers

@@ -1,19 +1,21 @@
 -- Wrong outcomes that the contract refuses: what a wrong program would answer or leave, and the clause that it breaks. The runs are
 -- document 01's, or of `walk`'s Examples, in slices that are full of sevens.
-use Prim.Native.Nat.{ℕ, suc}
-use mathlib.Core.Path.{_≡_, refl, sym, ap, _∙_}
+use Prim.Native.Nat.{ℕ, suc, _+_, _*_, _<_, _≤_}
+use mathlib.Core.Path.{_≡_, refl, sym, ap, _∙_, subst}
 use mathlib.Core.List.{List, [], _∷_}
-use mathlib.Core.Option.{some}
+use mathlib.Core.Option.{Option, none, some}
+use mathlib.Core.Bool.{Bool, true, false}
 use native.Mathlib.Omega.{arith}
-use lib.Dec.{lit≤}
+use borrow.Author.Tests.{ltb-true}
+use lib.Dec.{ltb, lit≤}
 use lib.ListN.{length, getD, replicate}
 use Rattle.walk.specs.Syntax.{Nat, Universe, Pi}
 use Rattle.walk.specs.Rule as R
-use Rattle.walk.specs.State.{Row}
+use Rattle.walk.specs.State.{Row, Thing, term, interval, context, inference, key}
 use Rattle.walk.specs.Run.{Answer, Result, no-result, a-term}
 use Rattle.walk.specs.Demand.{newest, older}
 use Rattle.walk.specs.Opened.{opened}
-use Rattle.link.specs.Table.{table-at, Answer-at, this-answer, later-answer}
+use Rattle.link.specs.Table.{_>>=_, lower, interval-at, term-at, scope-at, Holds-thing, table-at, Answer-at, this-answer, later-answer}
 use Rattle.run.specs.declared.entry.Ran.{Ran}
 use Rattle.run.specs.Contract.{walked, numbers-of, Runs}
 
@@ -46,6 +48,23 @@ one-first = this-answer
 one-numbers : numbers-of (walked one rows cells answers) ≡ ran 0 0 1 2 4
 unfolding opened
 one-numbers = refl
+
+-- the same with a nesting limit of 3, in slices with just enough room: two rows, four cells, one answer
+abbrev tight : List ℕ
+tight = 3 ∷ 0 ∷ 3 ∷ 0 ∷ 0 ∷ 4 ∷ 3 ∷ []
+
+abbrev two-rows : List ℕ
+two-rows = replicate 48 7
+
+abbrev four-cells : List ℕ
+four-cells = replicate 32 7
+
+abbrev one-answer : List ℕ
+one-answer = replicate 4 7
+
+tight-first : Answer-at (said 1 no-result 3) 0 (walked tight two-rows four-cells one-answer .answers)
+unfolding opened
+tight-first = this-answer
 
 -- check zero at nat, then infer v 0 in context nat
 abbrev two : List ℕ
@@ -86,6 +105,10 @@ module _ {r : Ran} {rows′ cells′ answers′ : List ℕ} where
   refuses : Runs one rows cells answers r rows′ cells′ answers′ → (n : ℕ) → getD answers′ 0 0 ≡ suc n → ⊥
   refuses h n e = let q : suc n ≡ 0 = sym e ∙ h .each-answer 0 _ one-first .number in omega arith
 
+  -- the same while there is just enough
+  refuses-tight : Runs tight two-rows four-cells one-answer r rows′ cells′ answers′ → (n : ℕ) → getD answers′ 0 0 ≡ suc n → ⊥
+  refuses-tight h n e = let q : suc n ≡ 0 = sym e ∙ h .each-answer 0 _ tight-first .number in omega arith
+
   -- row 0 always
   row-0 : Runs one rows cells answers r rows′ cells′ answers′ → getD answers′ 1 0 ≡ 0 → ⊥
   row-0 h e = let q : _≡_ {A = ℕ} 0 1 = sym e ∙ h .each-answer 0 _ one-first .row in omega arith
@@ -120,6 +143,30 @@ module _ {r : Ran} {rows′ cells′ answers′ : List ℕ} where
   past-answers : Runs one rows cells answers r rows′ cells′ answers′ → getD answers′ 4 0 ≡ 0 → ⊥
   past-answers h e = let n : r .calls ≡ 1 = ap (λ (x : Ran). x .calls) (h .numbers ∙ one-numbers) in let q : _≡_ {A = ℕ} 0 7 = sym e ∙ h .answers-stay 4 (rw n (lit≤ tt)) in omega arith
 
+  -- a remembered inference whose term is no cell in use
+  unused-cell : Runs one rows cells answers r rows′ cells′ answers′ → (i : ℕ) → i < 4 → getD cells′ (i * 8) 0 ≡ 40 → 4 ≤ getD cells′ (i * 8 + 3) 0 → ⊥
+  unfolding term-at interval-at scope-at _>>=_
+  unused-cell h i l e k =
+      let n : r .cells ≡ 4 = ap (λ (x : Ran). x .cells) (h .numbers ∙ one-numbers) in
+      let x = h .each-thing i (rw n l) in
+      go (x .thing) (subst (λ (m : ℕ). Holds-thing m cells′ i (x .thing)) n (x .holds))
+    where
+      nothing : {A : Type 0} {a : A} → none ≡ some a → ⊥
+      nothing q = let z : _≡_ {A = ℕ} 0 1 = cc in omega arith
+
+      high : {A : Type 0} (f : ℕ → Option A) → lower i f (getD cells′ (i * 8 + 3) 0) ≡ none
+      high f = over (f (getD cells′ (i * 8 + 3) 0)) (ltb (getD cells′ (i * 8 + 3) 0) i) refl
+        where
+          over : {A : Type 0} (a : Option A) (b : Bool) → ltb (getD cells′ (i * 8 + 3) 0) i ≡ b → _≡_ {A = Option A} (elim b as (λ _. Option A) [ true ↦ a | false ↦ none ]) none
+          over a true q = absurd (omega (arith, ltb-true (getD cells′ (i * 8 + 3) 0) i q))
+          over a false q = refl
+
+      go : (x : Thing) → Holds-thing 4 cells′ i x → ⊥
+      go (term t) q = nothing (rw e at q)
+      go (interval t) q = nothing (rw e at q)
+      go (context g) q = nothing (rw e at q)
+      go (inference (key d g t)) q = nothing (sym (high (term-at 4 cells′)) ∙ q .of)
+
   -- the first call's row repeated for the second
   first-row : Runs two rows cells answers r rows′ cells′ answers′ → getD answers′ 5 0 ≡ 1 → ⊥
   first-row h e = let q : _≡_ {A = ℕ} 1 6 = sym e ∙ h .each-answer 1 _ two-second .row in omega arith
@@ -136,8 +183,18 @@ module _ {r : Ran} {rows′ cells′ answers′ : List ℕ} where
   compared : Runs annotated rows cells answers r rows′ cells′ answers′ → (n : ℕ) → getD answers′ 0 0 ≡ suc n → ⊥
   compared h n e = let q : suc n ≡ 0 = sym e ∙ h .each-answer 0 _ annotated-first .number in omega arith
 
-  changes : Runs [] rows cells answers r rows′ cells′ answers′ → (rows′ ≡ rows → ⊥) → ⊥
+  -- a run refused as a whole that changes something
+  no-bytes : Runs [] rows cells answers r rows′ cells′ answers′ → r .number ≡ 0 → ⊥
   unfolding opened
-  changes h z =
+  no-bytes h e =
       let n : r .number ≡ 3 = ap (λ (x : Ran). x .number) (h .numbers) in
-      z (h .rows-kept (λ e. let q : _≡_ {A = ℕ} 0 3 = sym e ∙ n in omega arith))
+      let q : _≡_ {A = ℕ} 0 3 = sym e ∙ n in omega arith
+
+  changes : Runs [] rows cells answers r rows′ cells′ answers′ → (rows′ ≡ rows → ⊥) → ⊥
+  changes h z = z (h .rows-kept (no-bytes h))
+
+  changes-cells : Runs [] rows cells answers r rows′ cells′ answers′ → (cells′ ≡ cells → ⊥) → ⊥
+  changes-cells h z = z (h .cells-kept (no-bytes h))
+
+  changes-answers : Runs [] rows cells answers r rows′ cells′ answers′ → (answers′ ≡ answers → ⊥) → ⊥
+  changes-answers h z = z (h .answers-kept (no-bytes h))

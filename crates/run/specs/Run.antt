@@ -8,7 +8,7 @@ use Rattle.ast.specs.Words.{ifb, up}
 use Rattle.producer.specs.declared.state.State.{State}
 use Rattle.producer.specs.declared.state.Two.{Two}
 use Rattle.producer.specs.declared.state.Two.the-variants.{Pair, Refused as Failed}
-use Rattle.producer.specs.Machine.{Machine, machine, Result, is, not}
+use Rattle.producer.specs.Machine.{Machine, machine, new-state, fresh, Result, is, not}
 use Rattle.syntax.specs.declared.limits.Size.{Size}
 use Rattle.syntax.specs.declared.limits.Size.the-variants.{Fits, Refused, Bad, Short}
 use Rattle.syntax.specs.declared.scan.Scanned.{Scanned}
@@ -27,11 +27,7 @@ at-most n most = ifb (ltb most n) most (low-of n)
 
 -- no rows, cells or memory, in slices of so many words
 unfoldable pub started : ℕ → ℕ → ℕ → State
-started limit rows cells = record { rows = 0; cells = 0; conversions = 0; deepest = 0; limit = low-of limit; rowroom = at-most (rows / 24) 50000; cellroom = at-most (cells / 8) 4294967295 }
-
--- deepest starts from 0 in each call
-unfoldable pub fresh : State → State
-fresh s = record { rows = s .rows; cells = s .cells; conversions = s .conversions; deepest = 0; limit = s .limit; rowroom = s .rowroom; cellroom = s .cellroom }
+started limit rows cells = new-state (low-of limit) (at-most (rows / 24) 50000) (at-most (cells / 8) 4294967295)
 
 -- what a call leaves: its answer, where the next one starts, and the machine
 pub record Told : Type 0 where

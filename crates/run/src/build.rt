@@ -3,7 +3,7 @@
 ghost use mathlib.Core.Path.{_≡_};
 ghost use Rattle.producer.specs.Machine.{machine, end-2};
 ghost use Rattle.run.specs.Build.{byte-at, parts-of, built, built-one, built-two, built-three, scoped};
-use ast::kinds::CONS;
+use ast::kinds;
 use ast::words::succ;
 use producer::state::Got;
 use producer::state::State;
@@ -15,7 +15,7 @@ pub const DEPTH: u32 = 33;
 // A byte that is no kind for its spot: never met in a run that was read.
 pub const UNREAD: u32 = 3;
 
-fn wide(x: u8) -> u32
+pub(crate) fn wide(x: u8) -> u32
     ensures { λ r. ⌜ r ≡ x ⌝ }
 {
     x as u32
@@ -34,22 +34,22 @@ pub fn parts(kind: u32) -> u32
     ensures { λ r. ⌜ r ≡ parts-of kind ⌝ }
 {
     match kind {
-        1 => 2,
-        2 => 2,
-        3 => 1,
-        4 => 1,
-        5 => 4,
-        6 => 4,
-        7 => 4,
-        8 => 5,
-        9 => 4,
-        10 => 4,
-        16 => 1,
-        17 => 1,
-        18 => 2,
-        19 => 3,
-        20 => 4,
-        21 => 4,
+        kinds::UNIVERSE => 2,
+        kinds::VAR => 2,
+        kinds::NAT => 1,
+        kinds::ZERO => 1,
+        kinds::PI => 4,
+        kinds::LAM => 4,
+        kinds::APP => 4,
+        kinds::PATH => 5,
+        kinds::PLAM => 4,
+        kinds::PAPP => 4,
+        kinds::I0 => 1,
+        kinds::I1 => 1,
+        kinds::DIM => 2,
+        kinds::NEG => 3,
+        kinds::MEET => 4,
+        kinds::JOIN => 4,
         _ => 0,
     }
 }
@@ -192,7 +192,7 @@ pub fn scope(
     let Two::Pair(s1, a, next) = q1 else {
         return q1;
     };
-    match s1.intern(rows, cells, CONS, a, g, 0) {
+    match s1.intern(rows, cells, kinds::CONS, a, g, 0) {
         Got::Is(s2, h) => scope(s2, down, bytes, next, rows, cells, h),
         Got::Refused(s2, e) => Two::Refused(s2, e),
     }

@@ -2,31 +2,62 @@
 // its arguments take cells: 19, deepest, then 20.
 ghost use mathlib.Core.Path.{_≡_};
 ghost use Rattle.producer.specs.Machine.{machine, end-2};
-ghost use Rattle.run.specs.Call.{with-term, with-sides, by-code, called};
+ghost use Rattle.run.specs.Call.{with-term, with-sides, by-code, with-context, called};
 use crate::build::DEPTH;
+use crate::build::UNREAD;
 use crate::build::build;
-use crate::build::byte;
 use crate::build::scope;
+use crate::build::wide;
 use ast::kinds::NIL;
 use ast::words::succ;
 use producer::state::Got;
 use producer::state::State;
 use producer::state::Two;
+use syntax::Heading;
+use syntax::head_at;
 
-// The row and the result of the call at `at`, or its refusal.
+// The row and the result of the call at `at`, or its refusal. In a run that was read, no head is bad.
 pub fn call(state: State, bytes: &[u8], at: u32, rows: &mut [u32], cells: &mut [u32]) -> Two
     ensures { λ r. ⌜ end-2 r (now (rows .exit)) (now (cells .exit)) ≡ called (now (bytes .entry)) at (machine (now (rows .entry)) (now (cells .entry)) state) ⌝ }
 {
     let left = state.limit;
-    let code = byte(bytes, at);
+    let head = head_at(bytes, at as usize);
+    let Heading::Is(code, dims, size) = head else {
+        return Two::Refused(state, UNREAD);
+    };
     let second = succ(at);
-    let d = byte(bytes, second);
     let third = succ(second);
-    let count = byte(bytes, third);
     let types = succ(third);
+    enter_context(
+        state,
+        left,
+        bytes,
+        types,
+        rows,
+        cells,
+        wide(code),
+        wide(dims),
+        wide(size),
+    )
+}
+
+// The context of a call, `count` types that start at `at`; then the function of its code.
+pub fn enter_context(
+    state: State,
+    left: u32,
+    bytes: &[u8],
+    at: u32,
+    rows: &mut [u32],
+    cells: &mut [u32],
+    code: u32,
+    d: u32,
+    count: u32,
+) -> Two
+    ensures { λ r. ⌜ end-2 r (now (rows .exit)) (now (cells .exit)) ≡ with-context left (now (bytes .entry)) at code d count (machine (now (rows .entry)) (now (cells .entry)) state) ⌝ }
+{
     match state.prepare(left, rows, cells, NIL, 0, 0) {
         Got::Is(s1, nil) => {
-            let q = scope(s1, count, bytes, types, rows, cells, nil);
+            let q = scope(s1, count, bytes, at, rows, cells, nil);
             let Two::Pair(s2, g, terms) = q else {
                 return q;
             };

@@ -6,7 +6,7 @@ ghost use mathlib.Core.List.{[], _∷_};
 ghost use Rattle.producer.specs.Machine.{machine};
 ghost use lib.ListN.{length};
 ghost use Rattle.run.specs.Contract.{Runs};
-ghost use Rattle.run.specs.Run.{low-of, at-most, fresh, started, refused-of, answered-of, turn-end, turned, play-end, played, refused-run, end-run, run-of};
+ghost use Rattle.run.specs.Run.{low-of, at-most, started, refused-of, answered-of, turn-end, turned, play-end, played, refused-run, end-run, run-of};
 use crate::call::call;
 use ast::words::put;
 use ast::words::succ;
@@ -53,19 +53,14 @@ fn cap(n: usize, most: u32) -> u32
     if (most as usize) < n { most } else { low(n) }
 }
 
-// No rows, cells or memory.
+// Where a run starts from: no rows, cells or memory, in slices of so many words.
 fn start(limit: usize, rows: usize, cells: usize) -> State
     ensures { λ r. ⌜ r ≡ started limit rows cells ⌝ }
 {
-    State {
-        rows: 0,
-        cells: 0,
-        conversions: 0,
-        deepest: 0,
-        limit: low(limit),
-        rowroom: cap(rows / 24, 50000),
-        cellroom: cap(cells / 8, 4294967295),
-    }
+    let most = low(limit);
+    let rowroom = cap(rows / 24, 50000);
+    let cellroom = cap(cells / 8, 4294967295);
+    State::new(most, rowroom, cellroom)
 }
 
 // A call that is refused before the walk.
@@ -106,14 +101,6 @@ fn answered(q: Two, next: usize) -> Turn
     }
 }
 
-// The state of a call that is about to be walked: deepest starts from 0.
-fn begin(mut state: State) -> State
-    ensures { λ r. ⌜ r ≡ fresh state ⌝ }
-{
-    state.deepest = 0;
-    state
-}
-
 // The call at `at`: its limits first. In a run that was read, no size is bad or short.
 fn step(
     state: State,
@@ -128,7 +115,7 @@ fn step(
     let size = size_call(bytes, at, stack);
     match size {
         Size::Fits(_, next) => {
-            let s = begin(state);
+            let s = state.begin();
             let from = low(at);
             let q = call(s, bytes, from, rows, cells);
             answered(q, next)

@@ -1,5 +1,5 @@
--- The number that bounds a reader's depth does not matter once it is enough: where a reader gives a value, more gives the
--- same, and so does what is left of depth 32 where the value's size fits.
+-- The number that bounds a reader's depth does not matter once it is enough: where a reader gives a value whose size fits, what is
+-- left of depth 32 gives the same.
 use Prim.Native.Nat.{ℕ, zero, suc, _+_, _≤_}
 use mathlib.Core.Path.{_≡_, refl}
 use mathlib.Core.List.{List}
@@ -50,37 +50,6 @@ makes-ok {A} {R} a p = record { on = λ bs at {a = b} e. let q : a ≡ b = cc in
 
 makes-any : {A : Type 0} {m : Reader A} → Makes (λ a. Unit {0}) m
 makes-any = record { on = λ bs at e. tt }
-
-makes-none : {A : Type 0} {R : A → Type 0} → Makes R (λ bs at. bad at)
-makes-none = record { on = λ bs at e. absurd (let z : _≡_ {A = ℕ} 0 1 = cc in omega arith) }
-
-makes-interval : (f : ℕ) → Makes (IHeight f) (read-interval f)
-unfolding read-interval
-makes-interval zero = makes-none
-makes-interval (suc f) = makes-then makes-any (λ k u. elim k [
-  | k-0 ↦ makes-ok _ tt
-  | k-1 ↦ makes-ok _ tt
-  | k-dim ↦ makes-then makes-any (λ n u. makes-ok _ tt)
-  | k-neg ↦ makes-then (makes-interval f) (λ a p. makes-ok _ p)
-  | k-meet ↦ makes-then (makes-interval f) (λ a p. makes-then (makes-interval f) (λ b q. makes-ok _ (p, q)))
-  | k-join ↦ makes-then (makes-interval f) (λ a p. makes-then (makes-interval f) (λ b q. makes-ok _ (p, q)))
-])
-
-makes-term : (f : ℕ) → Makes (Height f) (read-term f)
-unfolding read-term
-makes-term zero = makes-none
-makes-term (suc f) = makes-then makes-any (λ k u. elim k [
-  | k-u ↦ makes-then makes-any (λ n u. makes-ok _ tt)
-  | k-v ↦ makes-then makes-any (λ n u. makes-ok _ tt)
-  | k-nat ↦ makes-ok _ tt
-  | k-zero ↦ makes-ok _ tt
-  | k-pi ↦ makes-then (makes-term f) (λ a p. makes-then (makes-term f) (λ b q. makes-ok _ (p, q)))
-  | k-lam ↦ makes-then (makes-term f) (λ a p. makes-then (makes-term f) (λ b q. makes-ok _ (p, q)))
-  | k-app ↦ makes-then (makes-term f) (λ a p. makes-then (makes-term f) (λ b q. makes-ok _ (p, q)))
-  | k-path ↦ makes-then (makes-term f) (λ a p. makes-then (makes-term f) (λ b q. makes-then (makes-term f) (λ c r. makes-ok _ (p, q, r))))
-  | k-plam ↦ makes-then (makes-term f) (λ a p. makes-then (makes-term f) (λ b q. makes-ok _ (p, q)))
-  | k-papp ↦ makes-then (makes-term f) (λ a p. makes-then (makes-interval f) (λ r q. makes-ok _ (p, q)))
-])
 
 -- A value that one reader gives, and that meets R, the other gives too.
 record Keeps {A : Type 0} (R : A → Type 0) (m m′ : Reader A) : Type 0 where
@@ -140,30 +109,6 @@ keeps-term (suc f) (suc g) =
     ])
 
 -- heights
-
-higher-interval : (f g : ℕ) → f ≤ g → (a : Interval) → IHeight f a → IHeight g a
-higher-interval zero g l a h = absurd h
-higher-interval (suc f) zero l a h = absurd (let z : ⊥ = omega arith in z)
-higher-interval (suc f) (suc g) l I0 h = tt
-higher-interval (suc f) (suc g) l I1 h = tt
-higher-interval (suc f) (suc g) l (Dim n) h = tt
-higher-interval (suc f) (suc g) l (Neg a) h = higher-interval f g (omega arith) a h
-higher-interval (suc f) (suc g) l (Meet a b) h = (higher-interval f g (omega arith) a (h .0), higher-interval f g (omega arith) b (h .1))
-higher-interval (suc f) (suc g) l (Join a b) h = (higher-interval f g (omega arith) a (h .0), higher-interval f g (omega arith) b (h .1))
-
-higher-term : (f g : ℕ) → f ≤ g → (t : Term) → Height f t → Height g t
-higher-term zero g l t h = absurd h
-higher-term (suc f) zero l t h = absurd (let z : ⊥ = omega arith in z)
-higher-term (suc f) (suc g) l (Universe n) h = tt
-higher-term (suc f) (suc g) l (Var n) h = tt
-higher-term (suc f) (suc g) l Nat h = tt
-higher-term (suc f) (suc g) l Zero h = tt
-higher-term (suc f) (suc g) l (Pi a b) h = (higher-term f g (omega arith) a (h .0), higher-term f g (omega arith) b (h .1))
-higher-term (suc f) (suc g) l (Lam a b) h = (higher-term f g (omega arith) a (h .0), higher-term f g (omega arith) b (h .1))
-higher-term (suc f) (suc g) l (App a b) h = (higher-term f g (omega arith) a (h .0), higher-term f g (omega arith) b (h .1))
-higher-term (suc f) (suc g) l (Path a b c) h = (higher-term f g (omega arith) a (h .0), higher-term f g (omega arith) b (h .1), higher-term f g (omega arith) c (h .2))
-higher-term (suc f) (suc g) l (PathLam a b) h = (higher-term f g (omega arith) a (h .0), higher-term f g (omega arith) b (h .1))
-higher-term (suc f) (suc g) l (PathApp a r) h = (higher-term f g (omega arith) a (h .0), higher-interval f g (omega arith) r (h .1))
 
 -- A node that fits is no deeper than 32.
 pub node-depth : (depth nodes index : ℕ) {n : ℕ} → node depth nodes index ≡ fits n → depth ≤ 32
@@ -250,15 +195,6 @@ fits-term (PathApp a r) (suc g) depth nodes e l =
     (fits-term a g (depth + 1) _ (v .1) (omega arith), fits-interval r g (depth + 1) _ (v .2) (omega arith))
 
 -- the laws
-
-pub more-interval : (f g : ℕ) → f ≤ g → (bs : List ℕ) (at : ℕ) {a : Interval} {rest : List ℕ} {end : ℕ} → read-interval f bs at ≡ got a rest end → read-interval g bs at ≡ got a rest end
-more-interval f g l bs at {a} e = keeps-interval f g .on bs at e (higher-interval f g l a (makes-interval f .on bs at e))
-
-pub more-term : (f g : ℕ) → f ≤ g → (bs : List ℕ) (at : ℕ) {t : Term} {rest : List ℕ} {end : ℕ} → read-term f bs at ≡ got t rest end → read-term g bs at ≡ got t rest end
-more-term f g l bs at {t} e = keeps-term f g .on bs at e (higher-term f g l t (makes-term f .on bs at e))
-
-pub fit-interval : (f g depth nodes : ℕ) → 33 ≤ g + depth → (bs : List ℕ) (at : ℕ) {a : Interval} {rest : List ℕ} {end n : ℕ} → size-interval a depth nodes ≡ fits n → read-interval f bs at ≡ got a rest end → read-interval g bs at ≡ got a rest end
-fit-interval f g depth nodes l bs at {a} s e = keeps-interval f g .on bs at e (fits-interval a g depth nodes s l)
 
 pub fit-term : (f g depth nodes : ℕ) → 33 ≤ g + depth → (bs : List ℕ) (at : ℕ) {t : Term} {rest : List ℕ} {end n : ℕ} → size-term t depth nodes ≡ fits n → read-term f bs at ≡ got t rest end → read-term g bs at ≡ got t rest end
 fit-term f g depth nodes l bs at {t} s e = keeps-term f g .on bs at e (fits-term t g depth nodes s l)

@@ -17,7 +17,7 @@ fn put_code(codes: &mut [u8], i: usize, code: u8)
     }
 }
 
-// The same for a run that was read: no call of it is bad, and the stack has room.
+// Stores each call's code, as far as there is room, of a run that was read: no call of it is bad, and the stack has room.
 fn put_codes(s: &[u8], codes: &mut [u8])
     requires { ⌜ Readable (now s) ⌝ }
     ensures { λ _. ⌜ now (codes .exit) ≡ sets (now (codes .entry)) 0 (call-codes (now (s .entry))) ⌝ }
@@ -36,7 +36,7 @@ fn put_codes(s: &[u8], codes: &mut [u8])
     }
 }
 
-// Stores each call's code, as far as there is room, and leaves the bytes past them. A run that is refused as a whole stores none.
+// Stores each call's code, as far as there is room, and leaves the bytes past them. Of a run that is refused with 2 or 3 none is stored.
 pub fn call_codes(s: &[u8], codes: &mut [u8])
     ensures { λ _. ⌜ now (codes .exit) ≡ sets (now (codes .entry)) 0 (call-codes (now (s .entry))) ⌝ }
 {

@@ -1,7 +1,7 @@
 // The limits of a call, refusals 5 to 7, in one prefix walk of its bytes: syntax.rs.
 ghost use mathlib.Core.Path.{_≡_};
 ghost use mathlib.Core.Bool.{_||_};
-ghost use Prim.Native.Nat.{ℕ, _+_, _*_, _≤_};
+ghost use Prim.Native.Nat.{_+_, _*_, _≤_};
 ghost use lib.Dec.{ltb, leb};
 ghost use lib.ListN.{length};
 ghost use Rattle.walk.specs.Limits.{size-term as walk-size, size-terms as walk-sizes, size-call as walk-call};

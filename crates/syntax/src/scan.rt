@@ -1,7 +1,7 @@
 // Reads a run without making its terms: where each thing ends, or the leftmost place of refusal 3. Terms nest as deep as
 // the bytes go, so what is still to be read stands on a stack that is lent, and its contents do not matter.
 ghost use mathlib.Core.Path.{_≡_};
-ghost use Prim.Native.Nat.{ℕ, _≤_};
+ghost use Prim.Native.Nat.{_≤_};
 ghost use mathlib.Core.Option.{none};
 ghost use lib.ListN.{length, drop, getD};
 ghost use Rattle.walk.specs.Reader.{codes, read-head as walk-head, read-limit as walk-limit, read-calls};

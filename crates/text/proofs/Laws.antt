@@ -15,44 +15,44 @@ use Rattle.text.specs.Listing.{call-line, row-line, totals, refused-list
 use Rattle.text.specs.declared.RunAnswer.{RunAnswer}
 use Rattle.rules.specs.Names.{bytes, node-name}
 use Rattle.rules.specs.Kinds.{part-of}
-use Rattle.text.specs.Window.{Page, page, put, ended, wrote}
-use Rattle.text.specs.declared.Pen.{Pen}
+use Rattle.text.specs.Window.{Output, output, put, ended, written}
+use Rattle.text.specs.declared.Writer.{Writer}
 
 -- writing
 
-pub wrote-nil : (w : Page) → wrote [] w ≡ w
-unfolding wrote
-wrote-nil w = refl
+pub written-nil : (o : Output) → written [] o ≡ o
+unfolding written
+written-nil o = refl
 
-pub wrote-cons : (b : ℕ) (t : Text) (w : Page) → wrote (b ∷ t) w ≡ wrote t (put b w)
-unfolding wrote
-wrote-cons b t w = refl
+pub written-cons : (b : ℕ) (t : Text) (o : Output) → written (b ∷ t) o ≡ written t (put b o)
+unfolding written
+written-cons b t o = refl
 
-pub wrote-append : (s t : Text) (w : Page) → wrote (s ++ t) w ≡ wrote t (wrote s w)
-unfolding wrote
-wrote-append [] t w = refl
-wrote-append (b ∷ s) t w = wrote-append s t (put b w)
+pub written-append : (s t : Text) (o : Output) → written (s ++ t) o ≡ written t (written s o)
+unfolding written
+written-append [] t o = refl
+written-append (b ∷ s) t o = written-append s t (put b o)
 
 both : {a b : Bool} → (a && b) ≡ true → (a ≡ true) × (b ≡ true)
 both {a} {b} h = and-eq-true-iff a b .0 h
 
-ended-parts : (p : Pen) (buf : List ℕ) → ended (page p buf) ≡ true → (p .skip ≡ 0) × ((length buf ≤ p .filled) × (p .most ≤ p .left))
+ended-parts : (w : Writer) (buf : List ℕ) → ended (output w buf) ≡ true → (w .skip ≡ 0) × ((length buf ≤ w .filled) × (w .most ≤ w .left))
 unfolding ended
-ended-parts p buf h =
-    let k : (eqb (p .skip) 0 ≡ true) × ((leb (length buf) (p .filled) && leb (p .most) (p .left)) ≡ true) = both h in
-    let l : (leb (length buf) (p .filled) ≡ true) × (leb (p .most) (p .left) ≡ true) = both (k .1) in
+ended-parts w buf h =
+    let k : (eqb (w .skip) 0 ≡ true) × ((leb (length buf) (w .filled) && leb (w .most) (w .left)) ≡ true) = both h in
+    let l : (leb (length buf) (w .filled) ≡ true) × (leb (w .most) (w .left) ≡ true) = both (k .1) in
     (eqb-true _ _ (k .0), (leb-true _ _ (l .0), leb-true _ _ (l .1)))
 
-put-ended : (b : ℕ) (p : Pen) (buf : List ℕ) → ended (page p buf) ≡ true → put b (page p buf) ≡ page p buf
+put-ended : (b : ℕ) (w : Writer) (buf : List ℕ) → ended (output w buf) ≡ true → put b (output w buf) ≡ output w buf
 unfolding put
-put-ended b p buf h = let k : (p .skip ≡ 0) × ((length buf ≤ p .filled) × (p .most ≤ p .left)) = ended-parts p buf h in
+put-ended b w buf h = let k : (w .skip ≡ 0) × ((length buf ≤ w .filled) × (w .most ≤ w .left)) = ended-parts w buf h in
     rw (eq-eqb _ _ (k .0), put, le-ltb _ _ (k .1 .0), put, le-ltb _ _ (k .1 .1), put)
 
--- Where the pen has ended nothing changes.
-pub wrote-ended : (t : Text) (p : Pen) (buf : List ℕ) → ended (page p buf) ≡ true → wrote t (page p buf) ≡ page p buf
-unfolding wrote
-wrote-ended [] p buf h = refl
-wrote-ended (b ∷ t) p buf h = ap (wrote t) (put-ended b p buf h) ∙ wrote-ended t p buf h
+-- Where the writer has ended nothing changes.
+pub written-ended : (t : Text) (w : Writer) (buf : List ℕ) → ended (output w buf) ≡ true → written t (output w buf) ≡ output w buf
+unfolding written
+written-ended [] w buf h = refl
+written-ended (b ∷ t) w buf h = ap (written t) (put-ended b w buf h) ∙ written-ended t w buf h
 
 -- loops
 
@@ -61,21 +61,21 @@ each-turn : (f : ℕ → Text) (k n : ℕ) → k < n → each f k (n - k) ≡ f 
 unfolding each
 each-turn f k n h = let e : n - k ≡ suc (n - (k + 1)) = omega arith in let g : k + 1 ≡ suc k = omega arith in rw (e, g)
 
-pub wrote-turn : (f : ℕ → Text) (k n : ℕ) (v w : Page) → k < n → v ≡ wrote (f k) w → wrote (each f (k + 1) (n - (k + 1))) v ≡ wrote (each f k (n - k)) w
-wrote-turn f k n v w h e = rw (e, each-turn f k n h, wrote-append)
+pub written-turn : (f : ℕ → Text) (k n : ℕ) (o′ o : Output) → k < n → o′ ≡ written (f k) o → written (each f (k + 1) (n - (k + 1))) o′ ≡ written (each f k (n - k)) o
+written-turn f k n o′ o h e = rw (e, each-turn f k n h, written-append)
 
-pub wrote-end : (f : ℕ → Text) (k n : ℕ) (w : Page) → n ≤ k → wrote (each f k (n - k)) w ≡ w
-unfolding each wrote
-wrote-end f k n w h = let e : n - k ≡ 0 = omega arith in rw e
+pub written-end : (f : ℕ → Text) (k n : ℕ) (o : Output) → n ≤ k → written (each f k (n - k)) o ≡ o
+unfolding each written
+written-end f k n o h = let e : n - k ≡ 0 = omega arith in rw e
 
 -- A text is that of its bytes.
 abbrev pub byte-of : Text → ℕ → Text
 byte-of l k = getD l k 0 ∷ []
 
 -- A turn that puts the k-th byte of n.
-pub wrote-byte : (l : Text) (k n : ℕ) (v w : Page) → k < n → v ≡ put (getD l k 0) w → wrote (each (byte-of l) (k + 1) (n - (k + 1))) v ≡ wrote (each (byte-of l) k (n - k)) w
-unfolding wrote
-wrote-byte l k n v w h e = wrote-turn (byte-of l) k n v w h e
+pub written-byte : (l : Text) (k n : ℕ) (o′ o : Output) → k < n → o′ ≡ put (getD l k 0) o → written (each (byte-of l) (k + 1) (n - (k + 1))) o′ ≡ written (each (byte-of l) k (n - k)) o
+unfolding written
+written-byte l k n o′ o h e = written-turn (byte-of l) k n o′ o h e
 
 each-shift : (f : ℕ → Text) (k n : ℕ) → each f (suc k) n ≡ each (λ j. f (suc j)) k n
 unfolding each
@@ -87,8 +87,8 @@ unfolding each
 each-byte [] = refl
 each-byte (b ∷ l) = ap (λ t. b ∷ t) (each-shift (byte-of (b ∷ l)) 0 (length l) ∙ each-byte l)
 
-pub wrote-bytes : (l : Text) (w : Page) → wrote (each (byte-of l) 0 (length l - 0)) w ≡ wrote l w
-wrote-bytes l w = rw (sub-zero, each-byte)
+pub written-bytes : (l : Text) (o : Output) → written (each (byte-of l) 0 (length l - 0)) o ≡ written l o
+written-bytes l o = rw (sub-zero, each-byte)
 
 -- numbers
 
@@ -153,13 +153,13 @@ refs-some R i (suc n) h = rw sub-one
 
 -- listings, by their parts: a heading is kept whole
 
-pub wrote-refused : (run : RunAnswer) (w : Page) → wrote (refused-listing run) w ≡ wrote (bytes "\n") (wrote (decimal (run .place)) (wrote (bytes " ") (wrote (decimal (run .number)) (wrote (bytes "number place\n") w))))
+pub written-refused : (run : RunAnswer) (o : Output) → written (refused-listing run) o ≡ written (bytes "\n") (written (decimal (run .place)) (written (bytes " ") (written (decimal (run .number)) (written (bytes "number place\n") o))))
 unfolding refused-listing
-wrote-refused run w = simp wrote-append
+written-refused run o = simp written-append
 
-pub wrote-read :
-    (run : RunAnswer) (codes A R C : List ℕ) (w : Page)
-    → wrote (read-listing run codes A R C) w
-    ≡ wrote (totals run codes A) (wrote (bytes "rows cells repeats\n") (wrote (each (row-line R C) 0 (run .rows)) (wrote (bytes "row rule refs judgment\n") (wrote (each (call-line codes A C) 0 (run .calls)) (wrote (bytes "call code row result deepest\n") w)))))
+pub written-read :
+    (run : RunAnswer) (codes A R C : List ℕ) (o : Output)
+    → written (read-listing run codes A R C) o
+    ≡ written (totals run codes A) (written (bytes "rows cells repeats\n") (written (each (row-line R C) 0 (run .rows)) (written (bytes "row rule refs judgment\n") (written (each (call-line codes A C) 0 (run .calls)) (written (bytes "call code row result deepest\n") o)))))
 unfolding read-listing
-wrote-read run codes A R C w = simp wrote-append
+written-read run codes A R C o = simp written-append

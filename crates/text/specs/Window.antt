@@ -7,43 +7,43 @@ use mathlib.Core.List.{List, [], _∷_, _++_}
 use lib.Dec.{ltb, leb, eqb}
 use lib.ListN.{length, take, drop, set}
 use Rattle.text.specs.Text.{Text}
-use Rattle.text.specs.declared.Pen.{Pen}
+use Rattle.text.specs.declared.Writer.{Writer}
 use Rattle.text.specs.declared.View.{View}
 
--- A pen (how many bytes are still to be skipped, how many of the buffer are filled, how many did not fit, up to which number those are
--- counted) with the buffer.
-pub record Page : Type 0 where
-  pub pen : Pen
+-- A writer: how many bytes are still to be skipped, how many of the buffer are filled, how many did not fit, and up to which number
+-- those are counted. An output is a writer with the buffer.
+pub record Output : Type 0 where
+  pub writer : Writer
   pub buf : List ℕ
 
-abbrev pub page : Pen → List ℕ → Page
-page p buf = record { pen = p; buf = buf }
+abbrev pub output : Writer → List ℕ → Output
+output w buf = record { writer = w; buf = buf }
 
-abbrev pub pen : ℕ → ℕ → ℕ → ℕ → Pen
-pen skip filled left most = record { skip = skip; filled = filled; left = left; most = most }
+abbrev pub writer : ℕ → ℕ → ℕ → ℕ → Writer
+writer skip filled left most = record { skip = skip; filled = filled; left = left; most = most }
 
 -- One byte: skipped where bytes are to be skipped; else stored where the buffer has space; else counted.
-unfoldable pub put : ℕ → Page → Page
-put b w =
-    elim (eqb (w .pen .skip) 0) [
-      | true ↦ elim (ltb (w .pen .filled) (length (w .buf))) [
-        | true ↦ page (pen (w .pen .skip) (w .pen .filled + 1) (w .pen .left) (w .pen .most)) (set (w .buf) (w .pen .filled) b)
-        | false ↦ elim (ltb (w .pen .left) (w .pen .most)) [
-          | true ↦ page (pen (w .pen .skip) (w .pen .filled) (w .pen .left + 1) (w .pen .most)) (w .buf)
-          | false ↦ w
+unfoldable pub put : ℕ → Output → Output
+put b o =
+    elim (eqb (o .writer .skip) 0) [
+      | true ↦ elim (ltb (o .writer .filled) (length (o .buf))) [
+        | true ↦ output (writer (o .writer .skip) (o .writer .filled + 1) (o .writer .left) (o .writer .most)) (set (o .buf) (o .writer .filled) b)
+        | false ↦ elim (ltb (o .writer .left) (o .writer .most)) [
+          | true ↦ output (writer (o .writer .skip) (o .writer .filled) (o .writer .left + 1) (o .writer .most)) (o .buf)
+          | false ↦ o
         ]
       ]
-      | false ↦ page (pen (w .pen .skip - 1) (w .pen .filled) (w .pen .left) (w .pen .most)) (w .buf)
+      | false ↦ output (writer (o .writer .skip - 1) (o .writer .filled) (o .writer .left) (o .writer .most)) (o .buf)
     ]
 
 -- Nothing is to be skipped, the buffer is full, and all that is to be counted is counted.
-unfoldable pub ended : Page → Bool
-ended w = eqb (w .pen .skip) 0 && (leb (length (w .buf)) (w .pen .filled) && leb (w .pen .most) (w .pen .left))
+unfoldable pub ended : Output → Bool
+ended o = eqb (o .writer .skip) 0 && (leb (length (o .buf)) (o .writer .filled) && leb (o .writer .most) (o .writer .left))
 
 -- A text, byte by byte.
-unfoldable pub wrote : Text → Page → Page
-wrote [] w = w
-wrote (b ∷ t) w = wrote t (put b w)
+unfoldable pub written : Text → Output → Output
+written [] o = o
+written (b ∷ t) o = written t (put b o)
 
 -- The part of a text from `from` on, as far as the buffer goes: so many bytes, so many left after them (counted up to `most`), and what
 -- the buffer then holds.

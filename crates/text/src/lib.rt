@@ -6,7 +6,7 @@ ghost use Rattle.rules.specs.Names.{name-of};
 ghost use Rattle.text.specs.Text.{each, digit, decimal, cell-word, row-word, lower, part-as, quote, refs, reference, place, judgment-as};
 ghost use Rattle.text.specs.Repeats.{answer-word, code, is-call, repeat, repeats};
 ghost use Rattle.text.specs.Listing.{call-row, result, call-result, call-head, call-line, row-head, row-line, totals, refused-listing, listing, piece};
-ghost use Rattle.text.specs.Window.{page, pen, put, ended, wrote, Shown};
+ghost use Rattle.text.specs.Window.{output, writer, put, ended, written, Shown};
 use rules::Name;
 
 // What a run answers of itself.
@@ -32,7 +32,7 @@ pub enum Piece {
 
 // Writes into a buffer that is lent at each call: how many bytes are still to be skipped, how many of the buffer are filled, and how
 // many did not fit, which are counted up to `most`.
-pub struct Pen {
+pub struct Writer {
     pub skip: usize,
     pub filled: usize,
     pub left: usize,
@@ -149,12 +149,12 @@ fn digit(n: u32) -> u8
     48 + (n % 10) as u8
 }
 
-impl Pen {
-    // A pen for the window that starts at `from`, which counts at most so many bytes past its end.
-    pub fn new(from: usize, most: usize) -> Pen
-        ensures { λ r. ⌜ r ≡ pen from 0 0 most ⌝ }
+impl Writer {
+    // A writer for the window that starts at `from`, which counts at most so many bytes past its end.
+    pub fn new(from: usize, most: usize) -> Writer
+        ensures { λ r. ⌜ r ≡ writer from 0 0 most ⌝ }
     {
-        Pen {
+        Writer {
             skip: from,
             filled: 0,
             left: 0,
@@ -162,8 +162,8 @@ impl Pen {
         }
     }
 
-    pub fn put(mut self, b: u8, buf: &mut [u8]) -> Pen
-        ensures { λ r. ⌜ page r (now (buf .exit)) ≡ put b (page self (now (buf .entry))) ⌝ }
+    pub fn put(mut self, b: u8, buf: &mut [u8]) -> Writer
+        ensures { λ r. ⌜ output r (now (buf .exit)) ≡ put b (output self (now (buf .entry))) ⌝ }
     {
         if self.skip != 0 {
             self.skip -= 1;
@@ -183,7 +183,7 @@ impl Pen {
 
     // Whether no byte changes anything any more.
     fn ended(self, buf: &[u8]) -> bool
-        ensures { λ r. ⌜ r ≡ ended (page self (now (buf .entry))) ⌝ }
+        ensures { λ r. ⌜ r ≡ ended (output self (now (buf .entry))) ⌝ }
     {
         if self.skip == 0 {
             if buf.len() <= self.filled {
@@ -194,47 +194,47 @@ impl Pen {
     }
 
     // A number in decimal.
-    pub fn number(self, n: u32, buf: &mut [u8]) -> Pen
-        ensures { λ r. ⌜ page r (now (buf .exit)) ≡ wrote (decimal n) (page self (now (buf .entry))) ⌝ }
+    pub fn number(self, n: u32, buf: &mut [u8]) -> Writer
+        ensures { λ r. ⌜ output r (now (buf .exit)) ≡ written (decimal n) (output self (now (buf .entry))) ⌝ }
     {
         let d = digit(n);
         if n < 10 {
             return self.put(d, buf);
         }
-        let p = self.number(n / 10, buf);
-        p.put(d, buf)
+        let writer = self.number(n / 10, buf);
+        writer.put(d, buf)
     }
 
     // A slice's bytes.
-    pub fn bytes(self, s: &[u8], buf: &mut [u8]) -> Pen
-        ensures { λ r. ⌜ page r (now (buf .exit)) ≡ wrote (now (s .entry)) (page self (now (buf .entry))) ⌝ }
+    pub fn bytes(self, s: &[u8], buf: &mut [u8]) -> Writer
+        ensures { λ r. ⌜ output r (now (buf .exit)) ≡ written (now (s .entry)) (output self (now (buf .entry))) ⌝ }
     {
-        let mut p = self;
+        let mut writer = self;
         let mut k: usize = 0;
         while k < s.len() {
-            p = p.put(s[k], buf);
+            writer = writer.put(s[k], buf);
             k += 1;
         }
-        p
+        writer
     }
 
-    pub fn name(self, name: Name, buf: &mut [u8]) -> Pen
-        ensures { λ r. ⌜ page r (now (buf .exit)) ≡ wrote (name-of name) (page self (now (buf .entry))) ⌝ }
+    pub fn name(self, name: Name, buf: &mut [u8]) -> Writer
+        ensures { λ r. ⌜ output r (now (buf .exit)) ≡ written (name-of name) (output self (now (buf .entry))) ⌝ }
     {
         let n = rules::name_length(name);
-        let mut p = self;
+        let mut writer = self;
         let mut k: usize = 0;
         while k < n {
             let b = rules::name_byte(name, k);
-            p = p.put(b, buf);
+            writer = writer.put(b, buf);
             k += 1;
         }
-        p
+        writer
     }
 
     // The quote of a cell. It ends where all that was asked for is there, so that a long text costs no more than that.
-    pub fn quote(self, cells: &[u32], i: u32, buf: &mut [u8]) -> Pen
-        ensures { λ r. ⌜ page r (now (buf .exit)) ≡ wrote (quote (now (cells .entry)) i) (page self (now (buf .entry))) ⌝ }
+    pub fn quote(self, cells: &[u32], i: u32, buf: &mut [u8]) -> Writer
+        ensures { λ r. ⌜ output r (now (buf .exit)) ≡ written (quote (now (cells .entry)) i) (output self (now (buf .entry))) ⌝ }
     {
         if self.ended(buf) {
             return self;
@@ -243,18 +243,18 @@ impl Pen {
         if rules::part_sort(kind, 0) == 0 {
             return self.name(Name::Node(kind), buf);
         }
-        let p = self.put(40, buf);
-        let q = p.name(Name::Node(kind), buf);
-        let a = q.part(cells, i, kind, 0, buf);
-        let b = a.part(cells, i, kind, 1, buf);
-        let c = b.part(cells, i, kind, 2, buf);
-        c.put(41, buf)
+        let a = self.put(40, buf);
+        let b = a.name(Name::Node(kind), buf);
+        let c = b.part(cells, i, kind, 0, buf);
+        let d = c.part(cells, i, kind, 1, buf);
+        let e = d.part(cells, i, kind, 2, buf);
+        e.put(41, buf)
     }
 
     // A part of the cell `i`, after a blank; nothing where it has no such part. Parts have lower numbers than the whole, so the
     // depth of calls is at most the number of cells.
-    fn part(self, cells: &[u32], i: u32, kind: u32, n: u32, buf: &mut [u8]) -> Pen
-        ensures { λ r. ⌜ page r (now (buf .exit)) ≡ wrote (part-as (lower i (quote (now (cells .entry)))) (now (cells .entry)) i kind n) (page self (now (buf .entry))) ⌝ }
+    fn part(self, cells: &[u32], i: u32, kind: u32, n: u32, buf: &mut [u8]) -> Writer
+        ensures { λ r. ⌜ output r (now (buf .exit)) ≡ written (part-as (lower i (quote (now (cells .entry)))) (now (cells .entry)) i kind n) (output self (now (buf .entry))) ⌝ }
     {
         let sort = rules::part_sort(kind, n);
         if sort == 0 {
@@ -262,97 +262,105 @@ impl Pen {
         }
         let w = rules::part_word(kind, n);
         let x = cell_word(cells, i, w);
-        let p = self.put(32, buf);
+        let writer = self.put(32, buf);
         if sort == 1 {
-            return p.number(x, buf);
+            return writer.number(x, buf);
         }
         if x < i {
-            return p.quote(cells, x, buf);
+            return writer.quote(cells, x, buf);
         }
-        p
+        writer
     }
 
     // An argument of the row `i`, after a blank; nothing where the judgment has no such argument.
-    fn argument(self, rows: &[u32], cells: &[u32], i: u32, kind: u32, n: u32, buf: &mut [u8]) -> Pen
-        ensures { λ r. ⌜ page r (now (buf .exit)) ≡ wrote (place (now (rows .entry)) (now (cells .entry)) kind i n) (page self (now (buf .entry))) ⌝ }
+    fn argument(
+        self,
+        rows: &[u32],
+        cells: &[u32],
+        i: u32,
+        kind: u32,
+        n: u32,
+        buf: &mut [u8],
+    ) -> Writer
+        ensures { λ r. ⌜ output r (now (buf .exit)) ≡ written (place (now (rows .entry)) (now (cells .entry)) kind i n) (output self (now (buf .entry))) ⌝ }
     {
         let sort = rules::argument_sort(kind, n);
         if sort == 0 {
             return self;
         }
         let x = argument_word(rows, i, n);
-        let p = self.put(32, buf);
+        let writer = self.put(32, buf);
         if sort == 1 {
-            return p.number(x, buf);
+            return writer.number(x, buf);
         }
-        p.quote(cells, x, buf)
+        writer.quote(cells, x, buf)
     }
 
     // The judgment of a kind, with the arguments of the row `i`.
-    pub fn judgment(self, rows: &[u32], cells: &[u32], i: u32, kind: u32, buf: &mut [u8]) -> Pen
-        ensures { λ r. ⌜ page r (now (buf .exit)) ≡ wrote (judgment-as kind (now (rows .entry)) (now (cells .entry)) i) (page self (now (buf .entry))) ⌝ }
+    pub fn judgment(self, rows: &[u32], cells: &[u32], i: u32, kind: u32, buf: &mut [u8]) -> Writer
+        ensures { λ r. ⌜ output r (now (buf .exit)) ≡ written (judgment-as kind (now (rows .entry)) (now (cells .entry)) i) (output self (now (buf .entry))) ⌝ }
     {
-        let p = self.put(40, buf);
-        let q = p.name(Name::Judgment(kind), buf);
-        let a = q.argument(rows, cells, i, kind, 0, buf);
-        let b = a.argument(rows, cells, i, kind, 1, buf);
-        let c = b.argument(rows, cells, i, kind, 2, buf);
-        let d = c.argument(rows, cells, i, kind, 3, buf);
-        let e = d.argument(rows, cells, i, kind, 4, buf);
-        e.put(41, buf)
+        let a = self.put(40, buf);
+        let b = a.name(Name::Judgment(kind), buf);
+        let c = b.argument(rows, cells, i, kind, 0, buf);
+        let d = c.argument(rows, cells, i, kind, 1, buf);
+        let e = d.argument(rows, cells, i, kind, 2, buf);
+        let f = e.argument(rows, cells, i, kind, 3, buf);
+        let g = f.argument(rows, cells, i, kind, 4, buf);
+        g.put(41, buf)
     }
 
     // The rows that the row `i` cites.
-    pub fn refs(self, rows: &[u32], i: u32, buf: &mut [u8]) -> Pen
-        ensures { λ r. ⌜ page r (now (buf .exit)) ≡ wrote (refs (now (rows .entry)) i) (page self (now (buf .entry))) ⌝ }
+    pub fn refs(self, rows: &[u32], i: u32, buf: &mut [u8]) -> Writer
+        ensures { λ r. ⌜ output r (now (buf .exit)) ≡ written (refs (now (rows .entry)) i) (output self (now (buf .entry))) ⌝ }
     {
         let n = least(10, row_word(rows, i, 1));
         if n == 0 {
             return self.put(45, buf);
         }
-        let mut p = self.number(row_word(rows, i, 2), buf);
+        let mut writer = self.number(row_word(rows, i, 2), buf);
         let mut k: u32 = 1;
         while k < n {
-            p = p.reference(rows, i, k, buf);
+            writer = writer.reference(rows, i, k, buf);
             k += 1;
         }
-        p
+        writer
     }
 
     // A cited row after the first, with a comma before it.
-    fn reference(self, rows: &[u32], i: u32, k: u32, buf: &mut [u8]) -> Pen
-        ensures { λ r. ⌜ page r (now (buf .exit)) ≡ wrote (reference (now (rows .entry)) i k) (page self (now (buf .entry))) ⌝ }
+    fn reference(self, rows: &[u32], i: u32, k: u32, buf: &mut [u8]) -> Writer
+        ensures { λ r. ⌜ output r (now (buf .exit)) ≡ written (reference (now (rows .entry)) i k) (output self (now (buf .entry))) ⌝ }
     {
         let x = ref_word(rows, i, k);
-        let p = self.put(44, buf);
-        p.number(x, buf)
+        let writer = self.put(44, buf);
+        writer.number(x, buf)
     }
 
     // A row's line: its number, its rule by name, the rows that it cites, and its judgment.
-    pub fn row_line(self, rows: &[u32], cells: &[u32], i: u32, buf: &mut [u8]) -> Pen
-        ensures { λ r. ⌜ page r (now (buf .exit)) ≡ wrote (row-line (now (rows .entry)) (now (cells .entry)) i) (page self (now (buf .entry))) ⌝ }
+    pub fn row_line(self, rows: &[u32], cells: &[u32], i: u32, buf: &mut [u8]) -> Writer
+        ensures { λ r. ⌜ output r (now (buf .exit)) ≡ written (row-line (now (rows .entry)) (now (cells .entry)) i) (output self (now (buf .entry))) ⌝ }
     {
         let rule = row_word(rows, i, 0);
         let kind = rules::rule_kind(rule);
-        let p = self.row_head(rule, i, buf);
-        let q = p.refs(rows, i, buf);
-        let b = q.put(32, buf);
-        let j = b.judgment(rows, cells, i, kind, buf);
-        j.put(10, buf)
+        let a = self.row_head(rule, i, buf);
+        let b = a.refs(rows, i, buf);
+        let c = b.put(32, buf);
+        let d = c.judgment(rows, cells, i, kind, buf);
+        d.put(10, buf)
     }
 
-    fn row_head(self, rule: u32, i: u32, buf: &mut [u8]) -> Pen
-        ensures { λ r. ⌜ page r (now (buf .exit)) ≡ wrote (row-head rule i) (page self (now (buf .entry))) ⌝ }
+    fn row_head(self, rule: u32, i: u32, buf: &mut [u8]) -> Writer
+        ensures { λ r. ⌜ output r (now (buf .exit)) ≡ written (row-head rule i) (output self (now (buf .entry))) ⌝ }
     {
-        let p = self.number(i, buf);
-        let b = p.put(32, buf);
-        let q = b.name(Name::Rule(rule), buf);
-        q.put(32, buf)
+        let a = self.number(i, buf);
+        let b = a.put(32, buf);
+        let c = b.name(Name::Rule(rule), buf);
+        c.put(32, buf)
     }
 
     // The row of a call, or -.
-    pub fn call_row(self, answers: &[u32], i: u32, buf: &mut [u8]) -> Pen
-        ensures { λ r. ⌜ page r (now (buf .exit)) ≡ wrote (call-row (now (answers .entry)) i) (page self (now (buf .entry))) ⌝ }
+    pub fn call_row(self, answers: &[u32], i: u32, buf: &mut [u8]) -> Writer
+        ensures { λ r. ⌜ output r (now (buf .exit)) ≡ written (call-row (now (answers .entry)) i) (output self (now (buf .entry))) ⌝ }
     {
         if answer_word(answers, i, 0) == 0 {
             let x = answer_word(answers, i, 1);
@@ -362,8 +370,8 @@ impl Pen {
     }
 
     // The result of an accepted call with the code: a level, a cell by quote, or -.
-    fn result(self, cells: &[u32], code: u8, x: u32, buf: &mut [u8]) -> Pen
-        ensures { λ r. ⌜ page r (now (buf .exit)) ≡ wrote (result code (now (cells .entry)) x) (page self (now (buf .entry))) ⌝ }
+    fn result(self, cells: &[u32], code: u8, x: u32, buf: &mut [u8]) -> Writer
+        ensures { λ r. ⌜ output r (now (buf .exit)) ≡ written (result code (now (cells .entry)) x) (output self (now (buf .entry))) ⌝ }
     {
         if code == 1 {
             return self.number(x, buf);
@@ -384,8 +392,8 @@ impl Pen {
         cells: &[u32],
         i: u32,
         buf: &mut [u8],
-    ) -> Pen
-        ensures { λ r. ⌜ page r (now (buf .exit)) ≡ wrote (call-result (now (codes .entry)) (now (answers .entry)) (now (cells .entry)) i) (page self (now (buf .entry))) ⌝ }
+    ) -> Writer
+        ensures { λ r. ⌜ output r (now (buf .exit)) ≡ written (call-result (now (codes .entry)) (now (answers .entry)) (now (cells .entry)) i) (output self (now (buf .entry))) ⌝ }
     {
         if answer_word(answers, i, 0) == 0 {
             let c = code_of(codes, i);
@@ -403,76 +411,76 @@ impl Pen {
         cells: &[u32],
         i: u32,
         buf: &mut [u8],
-    ) -> Pen
-        ensures { λ r. ⌜ page r (now (buf .exit)) ≡ wrote (call-line (now (codes .entry)) (now (answers .entry)) (now (cells .entry)) i) (page self (now (buf .entry))) ⌝ }
+    ) -> Writer
+        ensures { λ r. ⌜ output r (now (buf .exit)) ≡ written (call-line (now (codes .entry)) (now (answers .entry)) (now (cells .entry)) i) (output self (now (buf .entry))) ⌝ }
     {
         let deepest = answer_word(answers, i, 3);
-        let p = self.call_head(answers, i, buf);
-        let b = p.put(32, buf);
-        let q = b.call_result(codes, answers, cells, i, buf);
-        let d = q.put(32, buf);
+        let a = self.call_head(answers, i, buf);
+        let b = a.put(32, buf);
+        let c = b.call_result(codes, answers, cells, i, buf);
+        let d = c.put(32, buf);
         let e = d.number(deepest, buf);
         e.put(10, buf)
     }
 
-    fn call_head(self, answers: &[u32], i: u32, buf: &mut [u8]) -> Pen
-        ensures { λ r. ⌜ page r (now (buf .exit)) ≡ wrote (call-head (now (answers .entry)) i) (page self (now (buf .entry))) ⌝ }
+    fn call_head(self, answers: &[u32], i: u32, buf: &mut [u8]) -> Writer
+        ensures { λ r. ⌜ output r (now (buf .exit)) ≡ written (call-head (now (answers .entry)) i) (output self (now (buf .entry))) ⌝ }
     {
         let number = answer_word(answers, i, 0);
-        let p = self.number(i, buf);
-        let b = p.put(32, buf);
-        let q = b.number(number, buf);
-        let d = q.put(32, buf);
+        let a = self.number(i, buf);
+        let b = a.put(32, buf);
+        let c = b.number(number, buf);
+        let d = c.put(32, buf);
         d.call_row(answers, i, buf)
     }
 
     // The totals' line.
-    pub fn totals(self, run: RunAnswer, codes: &[u8], answers: &[u32], buf: &mut [u8]) -> Pen
-        ensures { λ r. ⌜ page r (now (buf .exit)) ≡ wrote (totals run (now (codes .entry)) (now (answers .entry))) (page self (now (buf .entry))) ⌝ }
+    pub fn totals(self, run: RunAnswer, codes: &[u8], answers: &[u32], buf: &mut [u8]) -> Writer
+        ensures { λ r. ⌜ output r (now (buf .exit)) ≡ written (totals run (now (codes .entry)) (now (answers .entry))) (output self (now (buf .entry))) ⌝ }
     {
         let n = repeats(codes, answers, run.calls);
-        let p = self.number(run.rows, buf);
-        let b = p.put(32, buf);
-        let q = b.number(run.cells, buf);
-        let d = q.put(32, buf);
+        let a = self.number(run.rows, buf);
+        let b = a.put(32, buf);
+        let c = b.number(run.cells, buf);
+        let d = c.put(32, buf);
         let e = d.number(n, buf);
         e.put(10, buf)
     }
 
     // The lines of all calls, and of all rows.
-    fn calls(self, codes: &[u8], answers: &[u32], cells: &[u32], n: u32, buf: &mut [u8]) -> Pen
-        ensures { λ r. ⌜ page r (now (buf .exit)) ≡ wrote (each (call-line (now (codes .entry)) (now (answers .entry)) (now (cells .entry))) 0 n) (page self (now (buf .entry))) ⌝ }
+    fn calls(self, codes: &[u8], answers: &[u32], cells: &[u32], n: u32, buf: &mut [u8]) -> Writer
+        ensures { λ r. ⌜ output r (now (buf .exit)) ≡ written (each (call-line (now (codes .entry)) (now (answers .entry)) (now (cells .entry))) 0 n) (output self (now (buf .entry))) ⌝ }
     {
-        let mut p = self;
+        let mut writer = self;
         let mut k: u32 = 0;
         while k < n {
-            p = p.call_line(codes, answers, cells, k, buf);
+            writer = writer.call_line(codes, answers, cells, k, buf);
             k += 1;
         }
-        p
+        writer
     }
 
-    fn rows(self, rows: &[u32], cells: &[u32], n: u32, buf: &mut [u8]) -> Pen
-        ensures { λ r. ⌜ page r (now (buf .exit)) ≡ wrote (each (row-line (now (rows .entry)) (now (cells .entry))) 0 n) (page self (now (buf .entry))) ⌝ }
+    fn rows(self, rows: &[u32], cells: &[u32], n: u32, buf: &mut [u8]) -> Writer
+        ensures { λ r. ⌜ output r (now (buf .exit)) ≡ written (each (row-line (now (rows .entry)) (now (cells .entry))) 0 n) (output self (now (buf .entry))) ⌝ }
     {
-        let mut p = self;
+        let mut writer = self;
         let mut k: u32 = 0;
         while k < n {
-            p = p.row_line(rows, cells, k, buf);
+            writer = writer.row_line(rows, cells, k, buf);
             k += 1;
         }
-        p
+        writer
     }
 
     // The listing of a run that is refused as a whole.
-    fn refused(self, run: RunAnswer, buf: &mut [u8]) -> Pen
-        ensures { λ r. ⌜ page r (now (buf .exit)) ≡ wrote (refused-listing run) (page self (now (buf .entry))) ⌝ }
+    fn refused(self, run: RunAnswer, buf: &mut [u8]) -> Writer
+        ensures { λ r. ⌜ output r (now (buf .exit)) ≡ written (refused-listing run) (output self (now (buf .entry))) ⌝ }
     {
-        let h = self.bytes(b"number place\n", buf);
-        let p = h.number(run.number, buf);
-        let b = p.put(32, buf);
-        let q = b.number(run.place, buf);
-        q.put(10, buf)
+        let a = self.bytes(b"number place\n", buf);
+        let b = a.number(run.number, buf);
+        let c = b.put(32, buf);
+        let d = c.number(run.place, buf);
+        d.put(10, buf)
     }
 
     // The listing of a run.
@@ -484,8 +492,8 @@ impl Pen {
         rows: &[u32],
         cells: &[u32],
         buf: &mut [u8],
-    ) -> Pen
-        ensures { λ r. ⌜ page r (now (buf .exit)) ≡ wrote (listing run (now (codes .entry)) (now (answers .entry)) (now (rows .entry)) (now (cells .entry))) (page self (now (buf .entry))) ⌝ }
+    ) -> Writer
+        ensures { λ r. ⌜ output r (now (buf .exit)) ≡ written (listing run (now (codes .entry)) (now (answers .entry)) (now (rows .entry)) (now (cells .entry))) (output self (now (buf .entry))) ⌝ }
     {
         if run.number != 0 {
             return self.refused(run, buf);
@@ -507,8 +515,8 @@ impl Pen {
         rows: &[u32],
         cells: &[u32],
         buf: &mut [u8],
-    ) -> Pen
-        ensures { λ r. ⌜ page r (now (buf .exit)) ≡ wrote (piece what run (now (codes .entry)) (now (answers .entry)) (now (rows .entry)) (now (cells .entry))) (page self (now (buf .entry))) ⌝ }
+    ) -> Writer
+        ensures { λ r. ⌜ output r (now (buf .exit)) ≡ written (piece what run (now (codes .entry)) (now (answers .entry)) (now (rows .entry)) (now (cells .entry))) (output self (now (buf .entry))) ⌝ }
     {
         match what {
             Piece::Listing => self.listing(run, codes, answers, rows, cells, buf),
@@ -546,9 +554,9 @@ pub fn window(
     ensures shown { λ r. ⌜ Shown (piece what run (now (codes .entry)) (now (answers .entry)) (now (rows .entry)) (now (cells .entry))) from most (now (buf .entry)) r (now (buf .exit)) ⌝ }
     ensures within { λ r. ⌜ (r .put ≤ length (now (buf .exit))) × (r .put ≡ length (take (r .put) (now (buf .exit)))) ⌝ }
 {
-    let p = Pen::new(from, most).piece(what, run, codes, answers, rows, cells, buf);
+    let writer = Writer::new(from, most).piece(what, run, codes, answers, rows, cells, buf);
     View {
-        put: p.filled,
-        left: p.left,
+        put: writer.filled,
+        left: writer.left,
     }
 }

@@ -7,7 +7,7 @@ use native.Mathlib.Omega.{arith}
 use Rattle.walk.specs.Syntax.{Term, Universe, Nil, quotes}
 use Rattle.walk.specs.Judgment.{Judgment, ctx}
 use Rattle.walk.specs.State.{Row, State, Outcome, with-deepest}
-use Rattle.walk.specs.Walk.{Callees, callees, typed, equation}
+use Rattle.walk.specs.Walk.{Callees, callees, typing, equation}
 use Rattle.walk.specs.Reader.{Code, c-context, c-universe, c-infer, c-check, c-normalise, c-equal, Call}
 use Rattle.walk.specs.Limits.{Sized, scope-over, size-over, index-over, fits, size-call}
 use Rattle.walk.specs.Run.{Result, no-result, a-level, a-term, Answer, answered, scope-of, nth, walk, play-sized, play, play-all}
@@ -31,9 +31,9 @@ module _ (c : Callees) (S : Sound c) (d : ℕ) (types ts : List Term) (s : State
   walk-left : (code : Code) → Left (record { code = code; dims = d; types = types; terms = ts }) (s .rows) (walk c code d (scope-of Nil types) ts s)
   unfolding walk judgment-of of-none of-level of-answer
   walk-left c-context = left _ _ _ (λ _. ctx d (quotes (scope-of Nil types))) (λ _. refl) (λ _ _ h. h) (S .ctx d _ .holds s same good)
-  walk-left c-universe = left _ _ _ (λ out. typed d (scope-of Nil types) (nth ts 0) (Universe (out .0))) (λ _. refl) (λ _ _ h. h) (S .universe d _ (nth ts 0) .holds s same good)
-  walk-left c-infer = left _ _ _ (λ out. typed d (scope-of Nil types) (nth ts 0) (out .0)) (λ _. refl) (λ _ _ h. h) (S .infer d _ (nth ts 0) .holds s same good)
-  walk-left c-check = left _ _ _ (λ _. typed d (scope-of Nil types) (nth ts 0) (nth ts 1)) (λ _. refl) (λ _ _ h. h) (S .check d _ (nth ts 0) (nth ts 1) .holds s same good)
+  walk-left c-universe = left _ _ _ (λ out. typing d (scope-of Nil types) (nth ts 0) (Universe (out .0))) (λ _. refl) (λ _ _ h. h) (S .universe d _ (nth ts 0) .holds s same good)
+  walk-left c-infer = left _ _ _ (λ out. typing d (scope-of Nil types) (nth ts 0) (out .0)) (λ _. refl) (λ _ _ h. h) (S .infer d _ (nth ts 0) .holds s same good)
+  walk-left c-check = left _ _ _ (λ _. typing d (scope-of Nil types) (nth ts 0) (nth ts 1)) (λ _. refl) (λ _ _ h. h) (S .check d _ (nth ts 0) (nth ts 1) .holds s same good)
   walk-left c-normalise = left _ _ _ (λ out. equation d (scope-of Nil types) (nth ts 0) (out .0) (nth ts 1)) (λ _. refl) (λ _ _ h. h) (S .normalize d _ (nth ts 0) (nth ts 1) .holds s same good)
   walk-left c-equal = left _ _ _ (λ _. equation d (scope-of Nil types) (nth ts 0) (nth ts 1) (nth ts 2)) (λ _. refl) (λ _ _ h. h) (S .equal d _ (nth ts 0) (nth ts 1) (nth ts 2) .holds s same good)
 

@@ -11,7 +11,7 @@ use Rattle.walk.specs.Syntax.{Term, Universe, Context, Nil, quotes}
 use Rattle.walk.specs.Judgment.{Judgment, ctx}
 use Rattle.walk.specs.Rules.{Follows}
 use Rattle.walk.specs.State.{Row, State}
-use Rattle.walk.specs.Walk.{typed, equation}
+use Rattle.walk.specs.Walk.{typing, equation}
 use Rattle.walk.specs.Reader.{c-context, c-universe, c-infer, c-check, c-normalise, c-equal, Call}
 use Rattle.walk.specs.Run.{Result, no-result, a-level, a-term, Answer, Ran, scope-of, nth, play-all, start}
 
@@ -102,9 +102,9 @@ judgment-of call result =
     let t = nth (call .terms) in
     elim (call .code) [
       | c-context ↦ of-none result (ctx d (quotes g))
-      | c-universe ↦ of-level result (λ l. typed d g (t 0) (Universe l))
-      | c-infer ↦ of-answer result (λ ty. typed d g (t 0) ty)
-      | c-check ↦ of-none result (typed d g (t 0) (t 1))
+      | c-universe ↦ of-level result (λ l. typing d g (t 0) (Universe l))
+      | c-infer ↦ of-answer result (λ ty. typing d g (t 0) ty)
+      | c-check ↦ of-none result (typing d g (t 0) (t 1))
       | c-normalise ↦ of-answer result (λ normal. equation d g (t 0) normal (t 1))
       | c-equal ↦ of-none result (equation d g (t 0) (t 1) (t 2))
     ]

@@ -16,7 +16,7 @@ pub data Judgment : Type 0 where
   max : ℕ → ℕ → ℕ → Judgment
   -- interval d r: the dimensions of r are below d
   interval : ℕ → Interval → Judgment
-  -- ishift r k q: q is r with its dimensions from k on up by one; isubst r k p q: q is r with p for dimension k
+  -- ishift r k q: q is r with its dimensions from k on up by one; isubst r k q p: p is r with q for dimension k
   ishift : Interval → ℕ → Interval → Judgment
   isubst : Interval → ℕ → Interval → Interval → Judgment
   -- the same of terms, for variables (shift, subst) and for dimensions (dshift, dsubst); what is put in stands third

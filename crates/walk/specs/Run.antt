@@ -37,7 +37,7 @@ unfoldable pub scope-of : Context → List Term → Context
 scope-of g [] = g
 scope-of g (a ∷ as′) = scope-of (Cons a g) as′
 
--- A call's terms by place. A call that is read has them all (`read-has-terms` of the crate `order`).
+-- A call's terms by place. A call that is read has them all (`full` of `each-call`, in the crate `order`'s Call).
 abbrev pub nth : List Term → ℕ → Term
 nth ts n = getD ts n Nat
 

@@ -22,7 +22,7 @@ const USAGE: &str = "\
 compare SEED COUNT [FIRST]        runs FIRST, FIRST + 1, .. of the generator
 compare sweep SEED COUNT [FIRST]  each in many slices and limits
 compare seeds                     those written by hand
-compare short LENGTH              every run of so many bytes
+compare short LENGTH              every run of so many codes and kinds after the header
 compare batch                     those of standard input, as the generator writes them
 compare vectors SEED FOLDER       writes stored runs, and what replay says of them
 compare bench [KIND..] [--times N]  times of both sides, N processes each (5)

@@ -5,19 +5,16 @@
 mod editing;
 mod list;
 
-use std::path::{Path, PathBuf};
+use std::path::PathBuf;
 use std::{env, fs};
-
-/// Where the source stands, unless ORACLE_SOURCE says: beside the repository.
-const BESIDE: &str = "../../../shared/docs/src";
 
 fn main() {
     println!("cargo:rerun-if-env-changed=ORACLE_SOURCE");
     println!("cargo:rerun-if-changed=edits");
-    let source = match env::var_os("ORACLE_SOURCE") {
-        Some(folder) => PathBuf::from(folder),
-        None => Path::new(&env::var_os("CARGO_MANIFEST_DIR").unwrap()).join(BESIDE),
-    };
+    let source = env::var_os("ORACLE_SOURCE").unwrap_or_else(|| {
+        panic!("ORACLE_SOURCE is not set: it names the source's folder (tools/oracle/README.md)")
+    });
+    let source = PathBuf::from(source);
     let out = PathBuf::from(env::var_os("OUT_DIR").unwrap());
     for (path, name, edits) in list::FILES {
         let from = source.join(path);

@@ -13,12 +13,11 @@ use Rattle.walk.specs.Reader.{Read, got, bad, Code, c-context, c-universe, c-in
 use Rattle.walk.specs.Limits.{Sized, fits, size-term, size-terms, size-call}
 use Rattle.walk.specs.Run.{scope-of, nth}
 use Rattle.syntax.specs.Told.{term-at, code-number}
-use Rattle.syntax.specs.Calls.{TermsAt, no-terms, next-term, CallAt, CallFits, call-fits, size-terms-first}
+use Rattle.syntax.specs.Calls.{TermsAt, no-terms, next-term, CallAt, call-head, CallFits, call-fits, size-terms-first}
 use Rattle.syntax.specs.Fuel.{fit-term}
-use Rattle.syntax.specs.Kinds.{code-is}
 use Rattle.link.specs.Asked.{build-term, build-context, call-ctx, call-universe, call-infer, call-check, call-normalize, call-equal}
-use Rattle.run.specs.Build.{byte-at, made, built, scoped, scoped-body}
-use Rattle.run.specs.Call.{row-alone, row-first, with-sides, with-term, by-code, called-in}
+use Rattle.run.specs.Build.{made, built, scoped, scoped-body}
+use Rattle.run.specs.Call.{row-alone, row-first, with-sides, with-term, by-code, with-context, headed, called-in}
 use Rattle.run.specs.Same.Steps.{then-same, then-then, then-give, give-then, made-then, made-in}
 use Rattle.run.specs.Same.Terms.{up-is, built-term}
 
@@ -107,13 +106,12 @@ module _ (bytes : List ℕ) (left d : ℕ) (types : List Term) where
 
 -- a call that was read and that fits
 pub called-is : (bytes : List ℕ) → length bytes ≤ 65536 → (left at : ℕ) {call : Call} {next n : ℕ} → CallAt bytes at call next → size-call call ≡ fits n → called-in left bytes at ≡ by-call (callees left) (call .code) (call .dims) (scope-of Nil (call .types)) (call .terms)
-unfolding called-in
+unfolding called-in headed with-context
 called-is bytes short left at {call} {next} {n} C z =
     let F : CallFits call n = call-fits call z in
     let u₁ : up at ≡ at + 1 = up-is at (omega (arith, C .far, C .inside)) in
     let u₂ : up (at + 1) ≡ at + 2 = up-is (at + 1) (omega (arith, C .far, C .inside)) ∙ omega arith in
     let u₃ : up (at + 2) ≡ at + 3 = up-is (at + 2) (omega (arith, C .far, C .inside)) ∙ omega arith in
-    let c : byte-at bytes at ≡ code-number (call .code) = code-is (byte-at bytes at) (call .code) (C .code) in
-    rw (u₁, u₂, u₃, c, ← C .dims, ← C .size)
+    rw (call-head bytes at C, u₁, u₂, u₃)
     (then-same (prepared (callees left) (intern 32 0 0 0)) (λ nil. rw (scoped-is bytes (at + 3) (call .types) (all-sent bytes short 0 (C .types) (F .types)) nil) (made-then (C .middle) (scope-cells (call .types) nil) _))
     ∙ coded bytes left (call .dims) (call .types) (C .middle) (call .code) (call .terms) (C .many) (all-sent bytes short (F .middle) (C .terms) (F .terms)))

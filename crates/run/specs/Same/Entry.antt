@@ -1,22 +1,25 @@
 -- The run over words does what the contract says.
-use Prim.Native.Nat.{ℕ, suc, _≤_}
-use mathlib.Core.Path.{_≡_, refl, ap, _∙_}
+use Prim.Native.Nat.{ℕ, suc, _*_, _≤_}
+use mathlib.Core.Path.{_≡_, refl, sym, ap, _∙_}
 use mathlib.Core.List.{List, [], _∷_}
 use mathlib.Core.Bool.{Bool, true, false}
 use native.Mathlib.Omega.{arith}
 use borrow.Author.Tests.{ltb-true}
 use lib.Dec.{ltb}
-use lib.ListN.{length}
+use lib.ListN.{length, getD}
 use Rattle.walk.specs.Judgment.{Judgment}
 use Rattle.walk.specs.State.{State, Row}
 use Rattle.walk.specs.Reader.{Call}
-use Rattle.walk.specs.Run.{play, play-all, start}
+use Rattle.walk.specs.Run.{Answer, play, play-all, start}
 use Rattle.walk.specs.Run as W
-use Rattle.walk.specs.Demand.{At, here, there, Distinct, cut, Demand-3}
+use Rattle.walk.specs.Demand.{At, here, there, Distinct, cut, Stated, All-stated, call-on, Demand-3}
+use native.Mathlib.Nat.{mul-div-le}
 use Rattle.order.specs.Cases.{run-cases}
+use Rattle.order.specs.Counts.{run-counts}
 use Rattle.link.specs.Asked.{ask-all, four-words, written-over}
 use Rattle.link.specs.Asked as L
-use Rattle.link.specs.Words.{Asked-words, words}
+use Rattle.link.specs.Table.{Answer-at, this-answer, later-answer, Answer-words, Call-at, this-call, later-call, States}
+use Rattle.link.specs.Words.{Asked-words, answers-fit, words}
 use Rattle.run.specs.declared.entry.Ran.{Ran}
 use Rattle.run.specs.Run.{Ended, end-run, run-of}
 use Rattle.run.specs.Contract.{walked, numbers-of, Derived, Runs}
@@ -53,6 +56,23 @@ cut-states n (r ∷ rs) m j l (there h) = go (ltb n (length rs)) (cut-states n r
 cut-distinct : (n : ℕ) (rs : List Row) → Distinct rs → Distinct (cut n rs)
 cut-distinct n rs d = record { same-row = λ m k j a b. d .same-row m k j (cut-in n rs m j a) (cut-in n rs k j b) }
 
+-- call k of the list with its answer
+record Stated-at (table : List Row) (answers : List Answer) (k : ℕ) (c : Call) : Type 0 where
+  answer : Answer
+  at : Answer-at answer k answers
+  stated : answer .number ≡ 0 → Stated table c answer
+
+stated-at : {table : List Row} {calls : List Call} {answers : List Answer} {k : ℕ} {c : Call} → All-stated table calls answers → Call-at c k calls → Stated-at table answers k c
+stated-at (call-on s rest) this-call = record { answer = _; at = this-answer; stated = s }
+stated-at (call-on s rest) (later-call c) = let x = stated-at rest c in record { answer = x .answer; at = later-answer (x .at); stated = x .stated }
+
+-- by the words of the answer
+in-words : {n : ℕ} {C A : List ℕ} {table : List Row} {answers : List Answer} {k : ℕ} {c : Call} → Stated-at table answers k c → ((a : Answer) → Answer-at a k answers → Answer-words n C A k a) → getD A (k * 4) 0 ≡ 0 → States n C A table k c
+in-words x w e =
+    let a = w (x .answer) (x .at) in
+    let s = x .stated (sym (a .number) ∙ e) in
+    record { result = x .answer .result; named = a .result; judgment = s .judgment; judged = s .judged; states = rw (a .row) (s .states) }
+
 module _ (bytes rows cells answers : List ℕ) where
   -- a run is refused, or read and played
   counted : length (walked bytes rows cells answers .answers) ≡ length (walked bytes rows cells answers .calls)
@@ -61,13 +81,13 @@ module _ (bytes rows cells answers : List ℕ) where
   kept : {A : Type 0} (of : Ended → A) (before : A) → ((n place : ℕ) → of (ended (W.refused-run n place) rows cells answers) ≡ before) → (walked bytes rows cells answers .number ≡ 0 → ⊥) → of (ended (walked bytes rows cells answers) rows cells answers) ≡ before
   kept of before h = run-cases (length rows) (length cells) (length answers) bytes (λ ran. (ran .number ≡ 0 → ⊥) → of (ended ran rows cells answers) ≡ before) (λ n place _. h n place) (λ limit calls r z. absurd (z refl))
 
-  derived-words : Asked-words rows cells answers (walked bytes rows cells answers) → Demand-3 (length rows) (length cells) (walked bytes rows cells answers) → Derived bytes rows cells answers (numbers-of (walked bytes rows cells answers)) (ended (walked bytes rows cells answers) rows cells answers .rows) (ended (walked bytes rows cells answers) rows cells answers .cells)
+  derived-words : Asked-words rows cells answers (walked bytes rows cells answers) → Demand-3 (length rows) (length cells) (walked bytes rows cells answers) → Derived bytes rows cells answers (numbers-of (walked bytes rows cells answers)) (ended (walked bytes rows cells answers) rows cells answers .rows) (ended (walked bytes rows cells answers) rows cells answers .cells) (ended (walked bytes rows cells answers) rows cells answers .answers)
   derived-words a d = record {
     table = walked bytes rows cells answers .last .rows;
     read = rw (← a .row-count, ← a .cell-count) (a .table);
     order = d .order;
     distinct = d .distinct;
-    stated = d .stated;
+    stated = λ k c q e. rw (← a .cell-count) (in-words (stated-at (d .stated) q) (a .each-answer k) e);
     cut-order = d .cut-order;
     cut-distinct = λ n. cut-distinct n _ (d .distinct);
     cut-states = λ n. cut-states n _;
@@ -86,6 +106,9 @@ module _ (bytes rows cells answers : List ℕ) where
     each-cell = rw (← a .cell-count) (a .each-cell);
     each-thing = rw (← a .cell-count) (a .each-thing);
     derived = derived-words a d;
+    rows-fit = omega (arith, a .rows-length, d .held);
+    cells-fit = let c = run-counts (length rows) (length cells) (length answers) bytes .cells in let m = mul-div-le (length cells) 8 in omega (arith, a .cells-length);
+    answers-fit = let f = answers-fit (length rows) (length cells) (length answers) bytes in omega (arith, a .answers-length);
     rows-length = a .rows-length;
     cells-length = a .cells-length;
     answers-length = a .answers-length;

@@ -26,7 +26,7 @@ use Rattle.link.specs.Asked.{Said, ask, ask-sized, ask-all, afresh, start, four
 use Rattle.link.specs.Asked as L
 use Rattle.link.specs.Words.{said-calls}
 use Rattle.run.specs.Call.{row-alone, row-first, called}
-use Rattle.run.specs.Run.{low-of, at-most, started, fresh, Told, turn-end, refused-of, told, turned-by, turned, Played, played, Ended, end-run, refused-run, read-run as ended-read, run-by, run-of}
+use Rattle.run.specs.Run.{low-of, at-most, started, Told, turn-end, refused-of, told, turned-by, turned, Played, played, Ended, end-run, refused-run, read-run as ended-read, run-by, run-of}
 use Rattle.run.specs.Same.Terms.{up-is}
 use Rattle.run.specs.Same.Calls.{by-call, called-is}
 
@@ -66,7 +66,7 @@ low-is n l = omega arith
 module _ (bytes : List ℕ) (short : length bytes ≤ 65536) where
   -- one call
   turn-is : (at : ℕ) {call : Call} {next : ℕ} → CallAt bytes at call next → (w : Machine) → turned 131073 bytes at w ≡ told-of (ask-sized (size-call call) call w) next
-  unfolding turned size-in size-of turned-by sized ask-sized refused-of called fresh afresh
+  unfolding turned size-in size-of turned-by sized ask-sized refused-of called afresh
   turn-is at {call} {next} C w = rw (C .reads, room (ltb 131073 (2 * length bytes + 1)) refl) (go (size-call call) refl)
     where
       room : (b : Bool) → ltb 131073 (2 * length bytes + 1) ≡ b → b ≡ false

@@ -8,7 +8,7 @@ use Rattle.walk.specs.Syntax.{quote, quote?, Interval, I0, I1, Dim, Neg,
 use Rattle.walk.specs.Judgment.{interval, dsubst, has, eq}
 use Rattle.walk.specs.Rules.{Follows, by·eq·refl, by·eq·sym, by·eq·trans, by·eq·beta, by·eq·pbeta, by·eq·p0, by·eq·p1}
 use Rattle.walk.specs.State.{Row}
-use Rattle.walk.specs.Walk.{Subst, DSubst, Callees, typed, lam-parts, plam-body, equation, beta, at-end, pbeta, ends, reduce-body, rounds, normalize-body, equal-body}
+use Rattle.walk.specs.Walk.{Subst, DSubst, Callees, typing, lam-parts, plam-body, equation, beta, at-end, pbeta, ends, reduce-body, rounds, normalize-body, equal-body}
 use Rattle.walk.specs.Demand.{At, none-cited, _also_, same}
 use Rattle.walk.specs.Sound.Logic.{lift, _and_by_, bind, refusing, giving, branch, cases, emitted, Keeps}
 use Rattle.walk.specs.Sound.Says.{Stepped, Sound}
@@ -31,13 +31,13 @@ module _ (c : Callees) (S : Sound c) where
       bind (S .transform body (Subst 0 r)) λ o₄ _ e₄ h₄. bind (S .transform (o₁ .0) (Subst 0 r)) λ o₅ _ e₅ h₅.
       bind (emitted (none-cited and h₀ by same and h₁ by e₁ and h₂ by e₂ and h₃ by e₃ and h₄ by e₄ and h₅ by e₅) by·eq·beta) λ row _ _ h. giving _ λ _ e. lift e h
 
-  pbeta-sound : {rs : List Row} (d : ℕ) (g : Context) (p : Term) (r : Interval) (body a b f ty : Term) (x y : ℕ) → quote p ≡ plam (quote body) → At x (typed d g p (Path a b f)) rs → At y (dsubst (quote a) 0 r (quote ty)) rs → Keeps rs (pbeta c d g p r body ty x y) (Stepped d g (PathApp p r))
+  pbeta-sound : {rs : List Row} (d : ℕ) (g : Context) (p : Term) (r : Interval) (body a b f ty : Term) (x y : ℕ) → quote p ≡ plam (quote body) → At x (typing d g p (Path a b f)) rs → At y (dsubst (quote a) 0 r (quote ty)) rs → Keeps rs (pbeta c d g p r body ty x y) (Stepped d g (PathApp p r))
   unfolding pbeta
   pbeta-sound d g p r body a b f ty x y q hx hy =
       bind (S .interval d r) λ _ _ e₁ h₁. bind (S .transform body (DSubst 0 r)) λ o₂ _ e₂ h₂. bind (S .check d g (o₂ .0) ty) λ _ _ e₃ h₃.
       bind (emitted (lift e₃ (lift e₂ (lift e₁ hx)) also lift e₃ (lift e₂ h₁) also lift e₃ (lift e₂ (lift e₁ hy)) also lift e₃ h₂ also h₃ also none-cited) (pbeta-rule q)) λ row _ _ h. giving _ λ _ e. lift e h
 
-  ends-sound : {rs : List Row} (d : ℕ) (g : Context) (p : Term) (r : Interval) (a b f ty : Term) (x y : ℕ) → At x (typed d g p (Path a b f)) rs → At y (dsubst (quote a) 0 r (quote ty)) rs → Keeps rs (ends c d g p r b f ty x y) (Stepped d g (PathApp p r))
+  ends-sound : {rs : List Row} (d : ℕ) (g : Context) (p : Term) (r : Interval) (a b f ty : Term) (x y : ℕ) → At x (typing d g p (Path a b f)) rs → At y (dsubst (quote a) 0 r (quote ty)) rs → Keeps rs (ends c d g p r b f ty x y) (Stepped d g (PathApp p r))
   unfolding ends at-end
   ends-sound d g p I0 a b f ty x y hx hy = bind (S .check d g b ty) λ _ _ e₁ h₁. bind (emitted (lift e₁ hx also lift e₁ hy also h₁ also none-cited) by·eq·p0) λ row _ _ h. giving _ λ _ e. lift e h
   ends-sound d g p I1 a b f ty x y hx hy = bind (S .check d g f ty) λ _ _ e₁ h₁. bind (emitted (lift e₁ hx also lift e₁ hy also h₁ also none-cited) by·eq·p1) λ row _ _ h. giving _ λ _ e. lift e h

@@ -6,7 +6,7 @@ use mathlib.Core.Bool.{Bool, true, false}
 use Rattle.walk.specs.Syntax.{quote, quotes, Interval, Term, Universe, Context}
 use Rattle.walk.specs.Judgment.{Judgment, ctx, dshiftctx, lookup, max, interval, ishift, isubst, shift, dshift}
 use Rattle.walk.specs.State.{Row}
-use Rattle.walk.specs.Walk.{Op, Shift, Subst, DShift, DSubst, IOp, Step, Callees, compared, larger, itransformed, transformed, typed, equation}
+use Rattle.walk.specs.Walk.{Op, Shift, Subst, DShift, DSubst, IOp, Step, Callees, compared, larger, itransformed, transformed, typing, equation}
 use Rattle.walk.specs.Demand.{At, Cites}
 use Rattle.walk.specs.Sound.Logic.{Keeps}
 
@@ -46,10 +46,10 @@ Stepped d g t (some step) rs = At (step .row) (equation d g t (step .term) (step
 -- what each function's row says
 pub record Sound (c : Callees) : Type 0 where
   pub ctx : {rs : List Row} (d : ℕ) (g : Context) → Keeps rs (c .ctx d g) (λ x. At x (ctx d (quotes g)))
-  pub infer : {rs : List Row} (d : ℕ) (g : Context) (t : Term) → Keeps rs (c .infer d g t) (λ o. At (o .1) (typed d g t (o .0)))
-  pub universe : {rs : List Row} (d : ℕ) (g : Context) (t : Term) → Keeps rs (c .universe d g t) (λ o. At (o .1) (typed d g t (Universe (o .0))))
-  pub check : {rs : List Row} (d : ℕ) (g : Context) (t ty : Term) → Keeps rs (c .check d g t ty) (λ x. At x (typed d g t ty))
-  pub expose : {rs : List Row} (d : ℕ) (g : Context) (t ty : Term) (x : ℕ) → At x (typed d g t ty) rs → Keeps rs (c .expose d g t ty x) (λ o. At (o .1) (typed d g t (o .0)))
+  pub infer : {rs : List Row} (d : ℕ) (g : Context) (t : Term) → Keeps rs (c .infer d g t) (λ o. At (o .1) (typing d g t (o .0)))
+  pub universe : {rs : List Row} (d : ℕ) (g : Context) (t : Term) → Keeps rs (c .universe d g t) (λ o. At (o .1) (typing d g t (Universe (o .0))))
+  pub check : {rs : List Row} (d : ℕ) (g : Context) (t ty : Term) → Keeps rs (c .check d g t ty) (λ x. At x (typing d g t ty))
+  pub expose : {rs : List Row} (d : ℕ) (g : Context) (t ty : Term) (x : ℕ) → At x (typing d g t ty) rs → Keeps rs (c .expose d g t ty x) (λ o. At (o .1) (typing d g t (o .0)))
   pub normalize : {rs : List Row} (d : ℕ) (g : Context) (t ty : Term) → Keeps rs (c .normalize d g t ty) (λ o. At (o .1) (equation d g t (o .0) ty))
   pub equal : {rs : List Row} (d : ℕ) (g : Context) (a b ty : Term) → Keeps rs (c .equal d g a b ty) (λ x. At x (equation d g a b ty))
   pub reduce : {rs : List Row} (d : ℕ) (g : Context) (t : Term) → Keeps rs (c .reduce d g t) (Stepped d g t)

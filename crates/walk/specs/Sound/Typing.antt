@@ -7,7 +7,7 @@ use Rattle.walk.specs.Syntax.{quote, quote?, I0, I1, Term, Universe, Var
 use Rattle.walk.specs.Judgment.{Judgment}
 use Rattle.walk.specs.Rules.{Follows, by·type·u, by·type·nat, by·type·zero, by·type·v, by·type·pi, by·type·lam, by·type·app, by·type·path, by·type·plam, by·type·papp, by·type·conv}
 use Rattle.walk.specs.State.{of-term, Row, key}
-use Rattle.walk.specs.Walk.{Subst, DSubst, Found, Callees, typed, level, pi-parts, path-parts, expose-body, universe-body, check-body, as-pi, as-path, find, new-infer, infer-body}
+use Rattle.walk.specs.Walk.{Subst, DSubst, Found, Callees, typing, level, pi-parts, path-parts, expose-body, universe-body, check-body, as-pi, as-path, find, new-infer, infer-body}
 use Rattle.walk.specs.Demand.{At, Cites, none-cited, _also_, same}
 use Rattle.walk.specs.Sound.Logic.{lift, lifts, _and_by_, bind, refusing, giving, branch, cases, found, emitted, counting, recalling, remembering, convert, Keeps}
 use Rattle.walk.specs.Sound.Says.{Sound}
@@ -17,10 +17,10 @@ use Rattle.walk.specs.Sound.Parts.{level-is, pi-is, path-is}
 pub record Finds (d : ℕ) (g : Context) (t : Term) (found : Found) (rs : List Row) : Type 0 where
   pub premises : List Judgment
   pub cited : Cites rs (found .refs) premises
-  pub follows : Follows (found .rule) premises (typed d g t (found .type))
+  pub follows : Follows (found .rule) premises (typing d g t (found .type))
 
 module _ (c : Callees) (S : Sound c) where
-  pub expose-sound : {rs : List Row} (d : ℕ) (g : Context) (t ty : Term) (x : ℕ) → At x (typed d g t ty) rs → Keeps rs (expose-body c d g t ty x) (λ o. At (o .1) (typed d g t (o .0)))
+  pub expose-sound : {rs : List Row} (d : ℕ) (g : Context) (t ty : Term) (x : ℕ) → At x (typing d g t ty) rs → Keeps rs (expose-body c d g t ty x) (λ o. At (o .1) (typing d g t (o .0)))
   unfolding expose-body
   expose-sound d g t ty x h₀ =
       bind (S .universe d g ty) λ o₁ _ e₁ h₁. bind (S .normalize d g ty (Universe (o₁ .0))) λ o₂ rs₂ e₂ h₂.
@@ -28,7 +28,7 @@ module _ (c : Callees) (S : Sound c) where
       (λ q. giving (o₂ .0, x) λ _ e. lift e (lift e₂ (lift e₁ (rw q h₀))))
       (λ _. bind (S .check d g (o₂ .0) (Universe (o₁ .0))) λ _ _ e₃ h₃. bind (emitted (lift e₃ (lift e₂ (lift e₁ h₀)) also lift e₃ h₂ also h₃ also none-cited) by·type·conv) λ row _ _ h. giving (o₂ .0, row) λ _ e. lift e h)
 
-  pub universe-sound : {rs : List Row} (d : ℕ) (g : Context) (t : Term) → Keeps rs (universe-body c d g t) (λ o. At (o .1) (typed d g t (Universe (o .0))))
+  pub universe-sound : {rs : List Row} (d : ℕ) (g : Context) (t : Term) → Keeps rs (universe-body c d g t) (λ o. At (o .1) (typing d g t (Universe (o .0))))
   unfolding universe-body
   universe-sound d g t =
       bind (S .infer d g t) λ o₁ _ _ h₁.
@@ -36,7 +36,7 @@ module _ (c : Callees) (S : Sound c) where
       (λ l q. giving (l, o₁ .1) λ _ e. lift e (rw (level-is (o₁ .0) l q) at h₁))
       (λ _. convert (bind (S .expose d g t (o₁ .0) (o₁ .1) h₁) λ o₂ _ _ h₂. cases (level (o₂ .0)) (λ l q. giving (l, o₂ .1) λ _ e. lift e (rw (level-is (o₂ .0) l q) at h₂)) (λ _. refusing 11 (lit< tt))))
 
-  pub check-sound : {rs : List Row} (d : ℕ) (g : Context) (t ty : Term) → Keeps rs (check-body c d g t ty) (λ x. At x (typed d g t ty))
+  pub check-sound : {rs : List Row} (d : ℕ) (g : Context) (t ty : Term) → Keeps rs (check-body c d g t ty) (λ x. At x (typing d g t ty))
   unfolding check-body
   check-sound d g t ty =
       bind (S .infer d g t) λ o₁ _ _ h₁.
@@ -47,14 +47,14 @@ module _ (c : Callees) (S : Sound c) where
       (λ q. bind (S .equal d g (o₁ .0) ty (Universe (o₂ .0))) λ _ _ e₄ h₄. emitted (lift e₄ (lift e₃ (lift e₂ h₁)) also h₄ also lift e₄ (rw q h₃) also none-cited) by·type·conv)
       (λ _. refusing 12 (lit< tt))))
 
-  as-pi-sound : {rs : List Row} (d : ℕ) (g : Context) (f ty : Term) (x : ℕ) → At x (typed d g f ty) rs → Keeps rs (as-pi c d g f ty x) (λ o. At (o .2) (typed d g f (Pi (o .0) (o .1))))
+  as-pi-sound : {rs : List Row} (d : ℕ) (g : Context) (f ty : Term) (x : ℕ) → At x (typing d g f ty) rs → Keeps rs (as-pi c d g f ty x) (λ o. At (o .2) (typing d g f (Pi (o .0) (o .1))))
   unfolding as-pi
   as-pi-sound d g f ty x h =
       cases (pi-parts ty)
       (λ ab q. giving (ab .0, ab .1, x) λ _ e. lift e (rw (pi-is ty ab q) at h))
       (λ _. bind (convert (S .expose d g f ty x h)) λ o _ _ h′. cases (pi-parts (o .0)) (λ ab q. giving (ab .0, ab .1, o .1) λ _ e. lift e (rw (pi-is (o .0) ab q) at h′)) (λ _. refusing 9 (lit< tt)))
 
-  pub as-path-sound : {rs : List Row} (d : ℕ) (g : Context) (f ty : Term) (x : ℕ) → At x (typed d g f ty) rs → Keeps rs (as-path c d g f ty x) (λ o. At (o .3) (typed d g f (Path (o .0) (o .1) (o .2))))
+  pub as-path-sound : {rs : List Row} (d : ℕ) (g : Context) (f ty : Term) (x : ℕ) → At x (typing d g f ty) rs → Keeps rs (as-path c d g f ty x) (λ o. At (o .3) (typing d g f (Path (o .0) (o .1) (o .2))))
   unfolding as-path
   as-path-sound d g f ty x h =
       cases (path-parts ty)
@@ -101,12 +101,12 @@ module _ (c : Callees) (S : Sound c) where
       bind (S .transform (o₁ .0) (DSubst 0 r)) λ o₃ _ e₃ h₃. bind (S .universe d g (o₃ .0)) λ _ _ e₄ h₄.
       giving _ λ _ e. record { premises = _; cited = lifts e (lift e₄ (lift e₃ (lift e₂ h₁)) also lift e₄ (lift e₃ h₂) also lift e₄ h₃ also h₄ also none-cited); follows = by·type·papp }
 
-  new-infer-sound : {rs : List Row} (d : ℕ) (g : Context) (t : Term) → Keeps rs (new-infer c d g t) (λ o. At (o .1) (typed d g t (o .0)))
+  new-infer-sound : {rs : List Row} (d : ℕ) (g : Context) (t : Term) → Keeps rs (new-infer c d g t) (λ o. At (o .1) (typing d g t (o .0)))
   unfolding new-infer
   new-infer-sound d g t =
       bind (find-sound d g t) λ found _ _ h₁. bind (counting (of-term (found .type))) λ _ _ e₂ _. bind (emitted (lifts e₂ (h₁ .cited)) (h₁ .follows)) λ row _ _ h₃.
       bind (remembering (key d g t) (found .type) row h₃) λ _ _ e₄ _. giving (found .type, row) λ _ e. lift e (lift e₄ h₃)
 
-  pub infer-sound : {rs : List Row} (d : ℕ) (g : Context) (t : Term) → Keeps rs (infer-body c d g t) (λ o. At (o .1) (typed d g t (o .0)))
+  pub infer-sound : {rs : List Row} (d : ℕ) (g : Context) (t : Term) → Keeps rs (infer-body c d g t) (λ o. At (o .1) (typing d g t (o .0)))
   unfolding infer-body
   infer-sound d g t = recalling (key d g t) (new-infer-sound d g t)

@@ -25,7 +25,7 @@ ifinish r op out rule refs = do
   row ← emit rule refs (itransformed r op out)
   pure (out, row)
 
--- a dimension above k (so not 0: 17 is never met)
+-- a dimension above k (so not 0: 17 is never met; `refusals` of `order`)
 unfoldable pub idim-above : Callees → ℕ → ℕ → Interval → M (Interval × ℕ)
 idim-above c ℕ.zero k q = refuse 17
 idim-above c (ℕ.suc n) k q = do

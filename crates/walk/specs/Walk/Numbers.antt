@@ -12,7 +12,7 @@ abbrev pub compared : Bool → ℕ → ℕ → Judgment
 compared true m n = lt m n
 compared false m n = le m n
 
--- a comparison that holds, by the first number (17 here is never met: the test stands before)
+-- a comparison that holds, by the first number (17 here is never met: the test stands before; `refusals` of `order`)
 unfoldable pub lt-by : Callees → ℕ → ℕ → M ℕ
 lt-by c m ℕ.zero = refuse 17
 lt-by c ℕ.zero (ℕ.suc n) = emit R.lt·z [] (lt 0 (suc n))

@@ -30,7 +30,8 @@ abbrev pub of-iop : IOp → List Thing
 of-iop (IShift k) = []
 of-iop (ISubst k r) = of-interval r
 
--- A step of `reduce`: the term, its type, and the row of the equation.
+-- A step of `reduce`: the term, its type, and the row of the equation. (The source has no type here: its `normalize` reads it from the row,
+-- where it stands by quote. A known row has the same judgment, so it is the same.)
 pub record Step : Type 0 where
   pub term : Term
   pub type : Term

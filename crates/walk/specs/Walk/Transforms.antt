@@ -44,7 +44,7 @@ finish t op out rule refs = do
   row ← emit rule refs (transformed t op out)
   pure (out, row)
 
--- a variable above k (so not 0: 17 is never met)
+-- a variable above k (so not 0: 17 is never met; `refusals` of `order`)
 unfoldable pub tvar-above : Callees → ℕ → ℕ → Term → M (Term × ℕ)
 tvar-above c ℕ.zero k r = refuse 17
 tvar-above c (ℕ.suc n) k r = do

@@ -11,8 +11,8 @@ use Rattle.walk.specs.Walk.Reference.{Subst, DSubst, Found, Callees}
 use Rattle.walk.specs.Walk.Numbers.{larger}
 
 -- t has the type ty
-abbrev pub typed : ℕ → Context → Term → Term → Judgment
-typed d g t ty = has d (quotes g) (quote t) (quote ty)
+abbrev pub typing : ℕ → Context → Term → Term → Judgment
+typing d g t ty = has d (quotes g) (quote t) (quote ty)
 
 abbrev pub level : Term → Option ℕ
 level (Universe l) = some l
@@ -82,7 +82,7 @@ expose-body c d g t ty typed = do
       then pure (normal, typed)
       else do
         formed ← c .check d g normal (Universe l)
-        row ← emit R.type·conv (typed ∷ equality ∷ formed ∷ []) (has d (quotes g) (quote t) (quote normal))
+        row ← emit R.type·conv (typed ∷ equality ∷ formed ∷ []) (typing d g t normal)
         pure (normal, row)
 
 unfoldable pub universe-body : Callees → ℕ → Context → Term → M (ℕ × ℕ)
@@ -105,7 +105,7 @@ check-body c d g t expected = do
         if ℕ-discrete i j
             then (do
               equality ← c .equal d g actual expected (Universe i)
-              emit R.type·conv (row ∷ equality ∷ formed ∷ []) (has d (quotes g) (quote t) (quote expected)))
+              emit R.type·conv (row ∷ equality ∷ formed ∷ []) (typing d g t expected))
             else refuse 12
 
 -- a type with its head exposed where it is not yet a pi (a path): the term's row goes along
@@ -188,7 +188,7 @@ unfoldable pub new-infer : Callees → ℕ → Context → Term → M (Term × �
 new-infer c d g t = do
   found ← find c d g t
   _ ← count-all (of-term (found .type))
-  row ← emit (found .rule) (found .refs) (has d (quotes g) (quote t) (quote (found .type)))
+  row ← emit (found .rule) (found .refs) (typing d g t (found .type))
   _ ← remember (key d g t) (found .type) row
   pure (found .type, row)
 

@@ -1,42 +1,43 @@
 -- Made by tools/prove.py: to make it again, run `python3 tools/prove.py run`.
 use Rattle.run.proofs.Steps.{steps}
-use Rattle.run.specs.Call.{called-in, called}
+use Rattle.run.specs.Call.{headed, called-in, called}
 use borrow.Author.Needs.{needs}
 use Rattle.run.proofs.call.call.Statement.{statement}
 use Rattle.run.proofs.call.call.Tie as tie
 
-byte-requires : tie.Need-byte-requires
-byte-requires c κs = search needs
+head-at-requires : tie.Need-head-at-requires
+head-at-requires c κs = search needs
+
+enum-known-head : tie.Need-enum-known-head
+enum-known-head c = search needs
+
+enum-told : tie.Need-enum-told
+enum-told c = search needs
+
+returns : tie.Need-returns
+unfolding called steps called-in headed
+returns c = rw (← c .before .before .head-at .ensures, c .enum-told .given .1)
 
 succ-requires : tie.Need-succ-requires
 succ-requires c κs = search needs
 
-byte-requires-2 : tie.Need-byte-requires-2
-byte-requires-2 c κs = search needs
-
 succ-requires-2 : tie.Need-succ-requires-2
 succ-requires-2 c κs = search needs
-
-byte-requires-3 : tie.Need-byte-requires-3
-byte-requires-3 c κs = search needs
 
 succ-requires-3 : tie.Need-succ-requires-3
 succ-requires-3 c κs = search needs
 
-prepare-requires : tie.Need-prepare-requires
-prepare-requires c κs = search needs
+wide-requires : tie.Need-wide-requires
+wide-requires c κs = search needs
 
-enum-known-s1 : tie.Need-enum-known-s1
-enum-known-s1 c = search needs
+wide-requires-2 : tie.Need-wide-requires-2
+wide-requires-2 c κs = search needs
 
-scope-requires : tie.Need-scope-requires
-scope-requires c κs = search needs
+wide-requires-3 : tie.Need-wide-requires-3
+wide-requires-3 c κs = search needs
 
-enum-known-q : tie.Need-enum-known-q
-enum-known-q c = search needs
-
-enum-told : tie.Need-enum-told
-enum-told c = search needs
+enter-context-requires : tie.Need-enter-context-requires
+enter-context-requires c κs = search needs
 
 same-length : tie.Need-same-length
 same-length c = search needs
@@ -44,62 +45,26 @@ same-length c = search needs
 same-length-2 : tie.Need-same-length-2
 same-length-2 c = search needs
 
-returns : tie.Need-returns
-unfolding called steps called-in
-returns c = rw (← c .before .before .before .before .before .before .before .before .before .before .before .before .before .before .before .before .before .before .before .before .byte .ensures, ← c .before .before .before .before .before .before .before .before .before .before .before .before .before .before .before .before .before .before .before .succ .ensures, ← c .before .before .before .before .before .before .before .before .before .before .before .before .before .before .before .before .before .before .byte2 .ensures, ← c .before .before .before .before .before .before .before .before .before .before .before .before .before .before .before .before .before .succ2 .ensures, ← c .before .before .before .before .before .before .before .before .before .before .before .before .before .before .before .before .byte3 .ensures, ← c .before .before .before .before .before .before .before .before .before .before .before .before .before .before .before .succ3 .ensures)
-    (rw (← c .before .before .before .before .before .before .before .before .before .before .before .before .prepare .ensures, c .before .before .before .before .before .before .before .before .s1 .given .1, ← c .before .before .before .before .scope .ensures, c .enum-told .given .1))
-
-enter-requires : tie.Need-enter-requires
-enter-requires c κs = search needs
-
-enum-known-s1-2 : tie.Need-enum-known-s1-2
-enum-known-s1-2 c = search needs
-
-same-length-3 : tie.Need-same-length-3
-same-length-3 c = search needs
-
-same-length-4 : tie.Need-same-length-4
-same-length-4 c = search needs
-
 returns-2 : tie.Need-returns-2
-unfolding called steps called-in
-returns-2 c = rw (← c .before .before .before .before .before .before .before .before .before .before .before .before .before .before .before .before .before .before .before .before .before .before .before .before .before .before .before .before .byte .ensures, ← c .before .before .before .before .before .before .before .before .before .before .before .before .before .before .before .before .before .before .before .before .before .before .before .before .before .before .before .succ .ensures, ← c .before .before .before .before .before .before .before .before .before .before .before .before .before .before .before .before .before .before .before .before .before .before .before .before .before .before .byte2 .ensures, ← c .before .before .before .before .before .before .before .before .before .before .before .before .before .before .before .before .before .before .before .before .before .before .before .before .before .succ2 .ensures, ← c .before .before .before .before .before .before .before .before .before .before .before .before .before .before .before .before .before .before .before .before .before .before .before .before .byte3 .ensures, ← c .before .before .before .before .before .before .before .before .before .before .before .before .before .before .before .before .before .before .before .before .before .before .before .succ3 .ensures)
-    (rw (← c .before .before .before .before .before .before .before .before .before .before .before .before .before .before .before .before .before .before .before .before .prepare .ensures, c .before .before .before .before .before .before .before .before .before .before .before .before .before .before .before .before .s1 .given .1, ← c .before .before .before .before .before .before .before .before .before .before .before .before .scope .ensures, c .before .before .before .before .before .before .before .before .q .given .1, ← c .before .before .before .before .enter .ensures))
-
-same-length-5 : tie.Need-same-length-5
-same-length-5 c = search needs
-
-same-length-6 : tie.Need-same-length-6
-same-length-6 c = search needs
-
-returns-3 : tie.Need-returns-3
-unfolding called steps called-in
-returns-3 c = rw (← c .before .before .before .before .before .before .before .before .before .before .before .before .before .byte .ensures, ← c .before .before .before .before .before .before .before .before .before .before .before .before .succ .ensures, ← c .before .before .before .before .before .before .before .before .before .before .before .byte2 .ensures, ← c .before .before .before .before .before .before .before .before .before .before .succ2 .ensures, ← c .before .before .before .before .before .before .before .before .before .byte3 .ensures, ← c .before .before .before .before .before .before .before .before .succ3 .ensures)
-    (rw (← c .before .before .before .before .before .prepare .ensures, c .before .s12 .given .1))
+unfolding called steps called-in headed
+returns-2 c = rw (← c .before .before .before .before .before .before .before .before .before .before .before .before .before .before .before .before .head-at .ensures, c .before .before .before .before .before .before .before .before .before .before .before .before .before .before .head .given .1, ← c .before .before .before .before .before .before .before .before .before .before .before .before .succ .ensures, ← c .before .before .before .before .before .before .before .before .before .before .before .succ2 .ensures, ← c .before .before .before .before .before .before .before .before .before .before .succ3 .ensures, ← c .before .before .before .before .before .before .before .wide .ensures)
+    (rw (← c .before .before .before .before .before .before .wide2 .ensures, ← c .before .before .before .before .before .wide3 .ensures, ← c .before .before .before .before .enter-context .ensures))
 
 pub call-spec : {M : Type 1} → statement M
 call-spec =
     tie.close
     (tie.spec
-    byte-requires
-    succ-requires
-    byte-requires-2
-    succ-requires-2
-    byte-requires-3
-    succ-requires-3
-    prepare-requires
-    enum-known-s1
-    scope-requires
-    enum-known-q
+    head-at-requires
+    enum-known-head
     enum-told
+    returns
+    succ-requires
+    succ-requires-2
+    succ-requires-3
+    wide-requires
+    wide-requires-2
+    wide-requires-3
+    enter-context-requires
     same-length
     same-length-2
-    returns
-    enter-requires
-    enum-known-s1-2
-    same-length-3
-    same-length-4
-    returns-2
-    same-length-5
-    same-length-6
-    returns-3)
+    returns-2)

@@ -13,9 +13,12 @@ cap-requires c κs = search needs
 cap-requires-2 : tie.Need-cap-requires-2
 cap-requires-2 c κs = search needs
 
+new-requires : tie.Need-new-requires
+new-requires c κs = search needs
+
 returns : tie.Need-returns
 unfolding started
-returns c = rw (← c .before .before .low .ensures, ← c .before .cap .ensures, ← c .cap2 .ensures)
+returns c = rw (← c .before .before .before .low .ensures, ← c .before .before .cap .ensures, ← c .before .cap2 .ensures, ← c .new .ensures)
 
 pub start-spec : {M : Type 1} → statement M
-start-spec = tie.close (tie.spec low-requires cap-requires cap-requires-2 returns)
+start-spec = tie.close (tie.spec low-requires cap-requires cap-requires-2 new-requires returns)
