@@ -5,7 +5,32 @@ use libc::STDOUT_FILENO;
 use text::Piece;
 use text::RunAnswer;
 
-// The part of the listing from `from` on, `size` bytes at most; whether there is more.
+// The part of the listing from `from` on that fits the buffer; whether there is more.
+fn put(
+    run: RunAnswer,
+    codes: &[u8],
+    answers: &[u32],
+    rows: &[u32],
+    cells: &[u32],
+    from: usize,
+    buf: &mut [u8],
+) -> bool {
+    let seen = text::window(
+        Piece::Listing,
+        run,
+        codes,
+        answers,
+        rows,
+        cells,
+        from,
+        1,
+        buf,
+    );
+    io::write_all(STDOUT_FILENO, &buf[..seen.put]);
+    seen.left != 0
+}
+
+// A window of `size` bytes.
 fn turn(
     run: RunAnswer,
     codes: &[u8],
@@ -18,19 +43,7 @@ fn turn(
     requires { ⌜ size ≤ 65536 ⌝ }
 {
     let mut buf = [0u8; 65536];
-    let seen = text::window(
-        Piece::Listing,
-        run,
-        codes,
-        answers,
-        rows,
-        cells,
-        from,
-        1,
-        &mut buf[..size],
-    );
-    io::write_all(STDOUT_FILENO, &buf[..seen.put]);
-    seen.left != 0
+    put(run, codes, answers, rows, cells, from, &mut buf[..size])
 }
 
 fn show(run: RunAnswer, codes: &[u8], answers: &[u32], rows: &[u32], cells: &[u32]) {

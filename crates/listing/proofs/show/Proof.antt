@@ -1,22 +1,17 @@
-use Prim.Native.Nat.{ℕ, _-_}
-use mathlib.Core.Path.{_≡_}
+use Prim.Native.Nat.{ℕ, _-_, _<_, _≤_}
 use native.Mathlib.Omega.{arith}
-use lib.ListN.{length}
 use borrow.Author.Needs.{needs}
 use Rattle.listing.proofs.show.Statement.{statement}
 use Rattle.listing.proofs.show.Tie as tie
-use Rattle.listing.proofs.show.Reads as reads
-use Rattle.listing.proofs.show.Lts as lts
-use Rattle.listing.proofs.turn.Reads as turn-reads
 
 abbrev Inv-loop : tie.InvT-loop
-Inv-loop run codes answers rows cells from₀ from = Unit {0}
+Inv-loop run codes answers rows cells from₀ size₀ from size = (0 < size) × (size ≤ 65536)
 
 abbrev μ-loop : tie.MeasureT-loop
-μ-loop run codes answers rows cells from₀ from = 4294967296 - from
+μ-loop run codes answers rows cells from₀ size₀ from size = 9223372036854775808 - from
 
 loop-holds : tie.Need-loop-holds Inv-loop μ-loop
-loop-holds c = search needs
+loop-holds c = (omega arith, omega arith)
 
 turn-requires : tie.Need-turn-requires Inv-loop μ-loop
 turn-requires c κs = search needs
@@ -24,11 +19,20 @@ turn-requires c κs = search needs
 add-from : tie.Need-add-from Inv-loop μ-loop
 add-from c = search needs
 
+mul-size : tie.Need-mul-size Inv-loop μ-loop
+mul-size c = search needs
+
 loop-less : tie.Need-loop-less Inv-loop μ-loop
 loop-less c = omega arith
 
 loop-again : tie.Need-loop-again Inv-loop μ-loop
-loop-again c = search needs
+loop-again c = (omega arith, omega arith)
+
+loop-less-2 : tie.Need-loop-less-2 Inv-loop μ-loop
+loop-less-2 c = omega arith
+
+loop-again-2 : tie.Need-loop-again-2 Inv-loop μ-loop
+loop-again-2 c = (omega arith, omega arith)
 
 returns : tie.Need-returns Inv-loop μ-loop
 returns c = search needs
@@ -45,7 +49,10 @@ show-spec =
     loop-holds
     turn-requires
     add-from
+    mul-size
     loop-less
     loop-again
+    loop-less-2
+    loop-again-2
     returns
     returns-2)
