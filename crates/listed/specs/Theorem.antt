@@ -1,4 +1,4 @@
--- What `listing` prints of a run is the listing of the walk's run: `listing-is`, from the entry's contract alone.
+-- What `listing` prints of a run is the listing of the walk's run: `listing-is`. Of the entry nothing but its contract is used.
 use Prim.Native.Nat.{ℕ, suc, _<_}
 use mathlib.Core.Path.{_≡_, refl, sym, ap, _∙_, subst}
 use mathlib.Core.Bool.{Bool, true, false}
@@ -11,6 +11,7 @@ use Rattle.walk.specs.Run.{start}
 use Rattle.walk.specs.Run as W
 use Rattle.walk.specs.Demand.{Derivation-order}
 use Rattle.order.specs.Cases.{run-cases}
+use Rattle.order.specs.Theorem.{demand-3}
 use Rattle.run.specs.declared.entry.Ran.{Ran}
 use Rattle.run.specs.Contract.{walked, numbers-of, Runs}
 use Rattle.text.specs.declared.RunAnswer.{RunAnswer}
@@ -73,7 +74,7 @@ module _ (bytes rows cells answers : List ℕ) where
   unfolding W.repeats
   listing-of rows′ cells′ answers′ codes h c =
       let n = length (walked bytes rows cells answers .last .cells) in
-      let calls : Calls-in codes answers′ cells′ 0 (walked bytes rows cells answers .calls) (walked bytes rows cells answers .answers) = calls-in n codes answers′ cells′ 0 (h .derived .stated) bare (λ k l. rw zero-add (c .each-code k l)) (λ k a at. rw zero-add (h .each-answer k a at)) in
+      let calls : Calls-in codes answers′ cells′ 0 (walked bytes rows cells answers .calls) (walked bytes rows cells answers .answers) = calls-in n codes answers′ cells′ 0 (demand-3 (length rows) (length cells) (length answers) bytes .stated) bare (λ k l. rw zero-add (c .each-code k l)) (λ k a at. rw zero-add (h .each-answer k a at)) in
       by-parts (walked bytes rows cells answers) codes answers′ rows′ cells′ (calls-said n codes answers′ cells′ calls) (rows-said n rows′ cells′ _ (in-order h) (h .each-row)) (repeats-said calls)
 
 -- For all bytes and slices, whatever the entry answers and leaves in the slices, if its contract holds.
