@@ -9,8 +9,7 @@ use lib.ListN.{getD, set}
 use lib.Seq.{sets}
 use lib.Dec.{eqb}
 use Rattle.ast.specs.Words.{ifb, all-eq}
-use Rattle.ast.specs.Cells.{or-else, first-of, last-of, cell-of, same-node}
-use Rattle.ast.specs.declared.cells.Found.{Found}
+use Rattle.ast.specs.Cells.{first-of, last-of, cell-of, same-node}
 use Rattle.ast.specs.declared.cells.Found.the-variants.{At, Nothing}
 
 pub last-down : (t : ℕ → Bool) (i : ℕ) → 0 < i → last-of t i ≡ ifb (t (i - 1)) (At (i - 1)) (last-of t (i - 1))

@@ -4,7 +4,7 @@ use Prim.Native.Nat.{ℕ, zero, suc, _+_, _*_}
 use mathlib.Core.Bool.{Bool, true, false}
 use mathlib.Core.List.{List}
 use lib.ListN.{getD}
-use lib.Dec.{ltb, leb, eqb}
+use lib.Dec.{leb, eqb}
 use Rattle.ast.specs.declared.cells.Cell.{Cell}
 use Rattle.ast.specs.declared.cells.Shape.{Shape}
 use Rattle.ast.specs.declared.cells.Shape.the-variants.{Universe, Pi, Lam, Path, Plam, Other}

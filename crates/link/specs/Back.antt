@@ -11,9 +11,9 @@ use lib.ListN.{length, getD, drop, take}
 use lib.Dec.{ltb, T, lt→ltb, lit<}
 use Rattle.producer.specs.Machine.{Machine}
 use Rattle.walk.specs.Syntax.{Interval, Term, Context, Quote, Quotes, quote, quotes}
-use Rattle.walk.specs.Judgment.{Judgment}
+use Rattle.walk.specs.Judgment.{Judgment, number, arguments}
 use Rattle.walk.specs.Reader.{kinds, ikinds}
-use Rattle.walk.specs.State.{State, Row, Thing, term, interval, context, inference, Key, key}
+use Rattle.walk.specs.State.{State, Row, Thing, term, interval, context, inference, key}
 use Rattle.walk.specs.Demand.{Row-at, newest, older, Cites, none-cited, _also_, Row-follows, Derivation-order}
 use Rattle.link.specs.Lists.{Nth, here, there, nth-below, nth-lift, Extends, same, more, extends-trans, first-passes, read}
 use Rattle.link.specs.Things.{Shown, shown?, show, shows, yes-true, Cell, Low, cell-nth, Plain}
@@ -21,7 +21,7 @@ use Rattle.link.specs.Tables.{Shape, s-plain, s-universe, s-var, s-nat, 
 use Rattle.link.specs.Store.{Block, plain, remembered, Line, line, Cells}
 use Rattle.link.specs.Holds.{Before, Holds}
 use Rattle.link.specs.Concludes.{reads, concludes, few-premises}
-use Rattle.link.specs.Table.{_>>=_, lower, interval-by, quote-by, ckinds, context-by, interval-at, quote-at, context-at, below, an-interval, a-quote, a-context, read-ctx, read-dshiftctx, read-lookup, read-lt, read-le, read-max, read-interval, read-ishift, read-isubst, read-shift, read-subst, read-dshift, read-dsubst, read-has, read-eq, cited-at, row-at, table-at, number, Stands-for, arguments, Row-words, term-by, scope-by, term-at, scope-at, Memory-cell, Holds-thing, Among, this-thing, other-thing, Cell-of, Thing-of}
+use Rattle.link.specs.Table.{_>>=_, lower, interval-by, quote-by, ckinds, context-by, interval-at, quote-at, context-at, below, an-interval, a-quote, a-context, read-ctx, read-dshiftctx, read-lookup, read-lt, read-le, read-max, read-interval, read-ishift, read-isubst, read-shift, read-subst, read-dshift, read-dsubst, read-has, read-eq, cited-at, row-at, table-at, Stands-for, Row-words, term-by, scope-by, term-at, scope-at, Memory-cell, Holds-thing, Among, this-thing, other-thing, Cell-of, Thing-of}
 
 -- the lowest cell that shows something
 record Lowest (n : ℕ) (s : Shown) (xs : List Thing) : Type 0 where

@@ -8,7 +8,7 @@ use mathlib.Core.Bool.{true, false}
 use lib.ListN.{length, getD, take, replicate}
 use lib.Dec.{ltb}
 use Rattle.walk.specs.Syntax.{Interval, I0, I1, Dim, Neg, Meet, Join, Term, Universe, Var, Nat, Zero, Pi, Lam, App, Path, PathLam, PathApp, Context, Nil, Cons, Quote, u, v, nat, zero, pi, lam, app, path, plam, papp, Quotes, nil, cons, quote}
-use Rattle.walk.specs.Judgment.{Judgment, ctx, dshiftctx, lookup, lt, le, max, interval, ishift, isubst, shift, subst, dshift, dsubst, has, eq}
+use Rattle.walk.specs.Judgment.{Judgment, Argument, number, of-interval, of-quote, of-context, arguments, ctx, dshiftctx, lookup, lt, le, max, interval, ishift, isubst, shift, subst, dshift, dsubst, has, eq}
 use Rattle.walk.specs.Reader.{Kind, k-u, k-v, k-nat, k-zero, k-pi, k-lam, k-app, k-path, k-plam, k-papp, IKind, k-0, k-1, k-dim, k-neg, k-meet, k-join, kinds, ikinds, Call}
 use Rattle.walk.specs.State.{Row, Thing, term, inference, key}
 use Rattle.walk.specs.State as S
@@ -168,34 +168,11 @@ table-at (ℕ.suc i) n R C = row-at n R C i >>= λ r. table-at i n R C >>= λ rs
 -- what stands in a row's words, each as document 01 has it
 
 -- an argument: a number as itself, else a cell in use with the quote
-pub data Argument : Type 0 where
-  number : ℕ → Argument
-  of-interval : Interval → Argument
-  of-quote : Quote → Argument
-  of-context : Quotes → Argument
-
 abbrev pub Stands-for : ℕ → List ℕ → ℕ → Argument → Type 0
 Stands-for n C w (number m) = w ≡ m
 Stands-for n C w (of-interval r) = an-interval n C w ≡ some r
 Stands-for n C w (of-quote t) = a-quote n C w ≡ some t
 Stands-for n C w (of-context g) = a-context n C w ≡ some g
-
-abbrev pub arguments : Judgment → List Argument
-arguments (ctx d g) = number d ∷ of-context g ∷ []
-arguments (dshiftctx g k h) = of-context g ∷ number k ∷ of-context h ∷ []
-arguments (lookup g n t) = of-context g ∷ number n ∷ of-quote t ∷ []
-arguments (lt m n) = number m ∷ number n ∷ []
-arguments (le m n) = number m ∷ number n ∷ []
-arguments (max m n k) = number m ∷ number n ∷ number k ∷ []
-arguments (interval d r) = number d ∷ of-interval r ∷ []
-arguments (ishift r k q) = of-interval r ∷ number k ∷ of-interval q ∷ []
-arguments (isubst r k q p) = of-interval r ∷ number k ∷ of-interval q ∷ of-interval p ∷ []
-arguments (shift t k r) = of-quote t ∷ number k ∷ of-quote r ∷ []
-arguments (subst t k r p) = of-quote t ∷ number k ∷ of-quote r ∷ of-quote p ∷ []
-arguments (dshift t k r) = of-quote t ∷ number k ∷ of-quote r ∷ []
-arguments (dsubst t k r p) = of-quote t ∷ number k ∷ of-interval r ∷ of-quote p ∷ []
-arguments (has d g t a) = number d ∷ of-context g ∷ of-quote t ∷ of-quote a ∷ []
-arguments (eq d g a b t) = number d ∷ of-context g ∷ of-quote a ∷ of-quote b ∷ of-quote t ∷ []
 
 -- over n cells, the words of row i are those of r; unused places are 0
 pub record Row-words (n : ℕ) (R C : List ℕ) (i : ℕ) (r : Row) : Type 0 where

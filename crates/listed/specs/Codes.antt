@@ -1,7 +1,7 @@
 -- The codes that `syntax`'s `call_codes` stores are those that the listing wants, where the slice has a byte for each call: so the
 -- program's listing is the walk's, whatever the bytes.
 use Prim.Native.Nat.{ℕ, _*_, _≤_}
-use mathlib.Core.Path.{_≡_, refl, sym, ap, _∙_}
+use mathlib.Core.Path.{_≡_, refl}
 use mathlib.Core.Bool.{Bool, true, false, _||_}
 use mathlib.Core.List.{List, [], _∷_}
 use native.Mathlib.Omega.{arith}

@@ -1,17 +1,16 @@
 -- A row's words, as the contract has them, hold the row, so the rows' lines are those of the table. Assumes nothing.
 use Prim.Native.Nat.{ℕ, zero, suc, _+_, _<_, _≤_}
 use mathlib.Core.Path.{_≡_, refl, ap, sym, _∙_, subst}
-use mathlib.Core.List.{List, [], _∷_, _++_, map, append-assoc, append-nil}
+use mathlib.Core.List.{List, [], _∷_, _++_, append-assoc, append-nil}
 use native.Mathlib.Omega.{arith}
 use native.Mathlib.Nat.{add-zero, zero-add}
 use lib.Dec.{lit≤}
 use lib.ListN.{length, getD}
-use Rattle.walk.specs.Judgment.{Judgment, ctx, dshiftctx, lookup, lt, le, max, interval, ishift, isubst, shift, subst as substitute, dshift, dsubst, has, eq}
+use Rattle.walk.specs.Judgment.{Judgment, Argument, number, of-interval, of-quote, of-context, arguments, ctx, dshiftctx, lookup, lt, le, max, interval, ishift, isubst, shift, subst as substitute, dshift, dsubst, has, eq}
 use Rattle.walk.specs.State.{Row}
 use Rattle.walk.specs.Demand.{Row-at, newest, older, Cites, none-cited, _also_, Derivation-order}
-use Rattle.rules.specs.Concludes.{Argument, a-number, a-term, an-interval, a-context, arguments, concludes}
+use Rattle.rules.specs.Concludes.{concludes}
 use Rattle.link.specs.Table.{interval-at, quote-at, context-at, Stands-for, Row-words}
-use Rattle.link.specs.Table as L
 use Rattle.link.specs.Concludes.{few-premises}
 use Rattle.text.specs.Text.{Text, each, row-word}
 use Rattle.text.specs.Listing.{row-line}
@@ -23,36 +22,28 @@ use Rattle.listed.specs.Listed.{row-lines}
 pub next : (k m : ℕ) → k + suc m ≡ suc k + m
 next k m = omega arith
 
--- arguments, as `link` names them and as `rules` does
+at-most-five : (j : Judgment) → length (arguments j) ≤ 5
+at-most-five (ctx d g) = lit≤ tt
+at-most-five (dshiftctx g k h) = lit≤ tt
+at-most-five (lookup g n t) = lit≤ tt
+at-most-five (lt m n) = lit≤ tt
+at-most-five (le m n) = lit≤ tt
+at-most-five (max m n k) = lit≤ tt
+at-most-five (interval d r) = lit≤ tt
+at-most-five (ishift r k q) = lit≤ tt
+at-most-five (isubst r k q p) = lit≤ tt
+at-most-five (shift t k r) = lit≤ tt
+at-most-five (substitute t k r p) = lit≤ tt
+at-most-five (dshift t k r) = lit≤ tt
+at-most-five (dsubst t k r p) = lit≤ tt
+at-most-five (has d g t a) = lit≤ tt
+at-most-five (eq d g a b t) = lit≤ tt
 
-abbrev same : L.Argument → Argument
-same (L.number m) = a-number m
-same (L.of-interval r) = an-interval r
-same (L.of-quote t) = a-term t
-same (L.of-context g) = a-context g
-
-alike : (j : Judgment) → (map same (L.arguments j) ≡ arguments j) × (length (L.arguments j) ≤ 5)
-alike (ctx d g) = (refl, lit≤ tt)
-alike (dshiftctx g k h) = (refl, lit≤ tt)
-alike (lookup g n t) = (refl, lit≤ tt)
-alike (lt m n) = (refl, lit≤ tt)
-alike (le m n) = (refl, lit≤ tt)
-alike (max m n k) = (refl, lit≤ tt)
-alike (interval d r) = (refl, lit≤ tt)
-alike (ishift r k q) = (refl, lit≤ tt)
-alike (isubst r k q p) = (refl, lit≤ tt)
-alike (shift t k r) = (refl, lit≤ tt)
-alike (substitute t k r p) = (refl, lit≤ tt)
-alike (dshift t k r) = (refl, lit≤ tt)
-alike (dsubst t k r p) = (refl, lit≤ tt)
-alike (has d g t a) = (refl, lit≤ tt)
-alike (eq d g a b t) = (refl, lit≤ tt)
-
-stands : (n : ℕ) (C : List ℕ) (w : ℕ) (a : L.Argument) → Stands-for n C w a → Argument-word C w (same a)
-stands n C w (L.number m) e = rw e word-number
-stands n C w (L.of-interval r) e = word-interval (interval-cell n C w r (lowered n (interval-at n C) w e .is))
-stands n C w (L.of-quote t) e = word-term (quote-cell n C w t (lowered n (quote-at n C) w e .is))
-stands n C w (L.of-context g) e = word-context (context-cell n C w g (lowered n (context-at n C) w e .is))
+stands : (n : ℕ) (C : List ℕ) (w : ℕ) (a : Argument) → Stands-for n C w a → Argument-word C w a
+stands n C w (number m) e = rw e word-number
+stands n C w (of-interval r) e = word-interval (interval-cell n C w r (lowered n (interval-at n C) w e .is))
+stands n C w (of-quote t) e = word-term (quote-cell n C w t (lowered n (quote-at n C) w e .is))
+stands n C w (of-context g) e = word-context (context-cell n C w g (lowered n (context-at n C) w e .is))
 
 -- a row that cites has as many premises
 
@@ -65,11 +56,11 @@ few-refs o i r at = let f = o .follows i r at in rw (cited-many (f .cited)) (few
 
 module _ (n : ℕ) (R C : List ℕ) (i : ℕ) where
   -- place k and those after it
-  arguments-in : (k : ℕ) (as′ : List L.Argument) → ((m : ℕ) → m < length as′ → Stands-for n C (row-word R i (13 + (k + m))) (getD as′ m (L.number 0))) → Arguments-in R C i k (map same as′)
+  arguments-in : (k : ℕ) (as′ : List Argument) → ((m : ℕ) → m < length as′ → Stands-for n C (row-word R i (13 + (k + m))) (getD as′ m (number 0))) → Arguments-in R C i k as′
   arguments-in k [] h = no-more
   arguments-in k (a ∷ as′) h =
       and-then (stands n C _ a (subst (λ (p : ℕ). Stands-for n C (row-word R i (13 + p)) a) (add-zero k) (h 0 (omega arith))))
-      (arguments-in (suc k) as′ (λ m l. subst (λ (p : ℕ). Stands-for n C (row-word R i (13 + p)) (getD as′ m (L.number 0))) (next k m) (h (suc m) (omega arith))))
+      (arguments-in (suc k) as′ (λ m l. subst (λ (p : ℕ). Stands-for n C (row-word R i (13 + p)) (getD as′ m (number 0))) (next k m) (h (suc m) (omega arith))))
 
   refs-in : (k : ℕ) (refs : List ℕ) → ((m : ℕ) → m < length refs → row-word R i (2 + (k + m)) ≡ getD refs m 0) → Refs-in R i k refs
   refs-in k [] h = no-refs
@@ -79,13 +70,13 @@ module _ (n : ℕ) (R C : List ℕ) (i : ℕ) where
 
   row-in : (r : Row) → length (r .refs) ≤ 10 → Row-words n R C i r → Row-in R C i r
   row-in r few h =
-      let (same-ones, five) = alike (r .judgment) in
+      let five = at-most-five (r .judgment) in
       record {
         rule = h .rule;
         count = h .cited;
         few = few;
         refs = refs-in 0 (r .refs) (λ m l. rw zero-add (h .places m (omega arith)));
-        arguments = rw (← same-ones) (arguments-in 0 (L.arguments (r .judgment)) (λ m l. rw zero-add (h .judgment m (omega arith))));
+        arguments = arguments-in 0 (arguments (r .judgment)) (λ m l. rw zero-add (h .judgment m (omega arith)));
       }
 
   row-is : {rows : List Row} → Derivation-order rows → (r : Row) → Row-at i r rows → Row-words n R C i r → row-line R C i ≡ row-text i r

@@ -1,16 +1,16 @@
 -- What each call of a run leaves alone, wherever in the list it came: `each-call`.
 use Prim.Native.Nat.{ℕ, _≤_}
-use mathlib.Core.Path.{_≡_, refl, sym, subst}
+use mathlib.Core.Path.{_≡_, refl}
 use mathlib.Core.List.{List, [], _∷_, _++_}
 use native.Mathlib.Omega.{arith}
 use lib.ListN.{length}
 use Rattle.walk.specs.State.{Row, State}
 use Rattle.walk.specs.Reader.{Call, terms-of}
-use Rattle.walk.specs.Run.{Answer, play, play-all, Ran, start, run}
+use Rattle.walk.specs.Run.{play, play-all, Ran, start, run}
 use Rattle.walk.specs.Demand.{Extends, same, more, Stated}
 use Rattle.walk.specs.Sound.Logic.{Good}
 use Rattle.walk.specs.Calls.{play-left, play-all-left}
-use Rattle.order.specs.Reading.{Full, All-full, none-full, full-on}
+use Rattle.order.specs.Reading.{Full, All-full, full-on}
 use Rattle.order.specs.Cases.{run-cases}
 use Rattle.order.specs.Counts.{play-counts, play-all-counts}
 use Rattle.order.specs.Theorem.{start-good}

@@ -1,16 +1,16 @@
 -- A table that the walk keeps in order (`Order` of walk's Sound) is a derivation order in document 01's terms, has no judgment
 -- twice, derives each of its judgments, and stays so when it is cut.
 use Prim.Native.Nat.{ℕ, _<_}
-use mathlib.Core.Path.{_≡_, refl}
-use mathlib.Core.List.{List, [], _∷_}
+use mathlib.Core.Path.{_≡_}
+use mathlib.Core.List.{List, _∷_}
 use mathlib.Core.Bool.{Bool, true, false}
 use native.Mathlib.Omega.{arith}
 use lib.Dec.{ltb}
 use lib.ListN.{length}
 use Rattle.walk.specs.Judgment.{Judgment}
 use Rattle.walk.specs.State.{Row}
-use Rattle.walk.specs.Demand.{Row-at, newest, older, At, here, there, Cites, none-cited, _also_, Row-follows, All-below, no-number, below, Derivation-order, Distinct, Derives, step, Derives-all, no-premise, premise, cut, Extends, same, more}
-use Rattle.walk.specs.Sound.Logic.{Stands, Order, empty, _atop_, lifts}
+use Rattle.walk.specs.Demand.{Row-at, newest, older, At, here, there, Cites, none-cited, _also_, Row-follows, All-below, no-number, below, Derivation-order, Distinct, Derives, step, Derives-all, no-premise, premise, cut, same, more}
+use Rattle.walk.specs.Sound.Logic.{Order, empty, _atop_, lifts}
 
 -- a row that states something is below the table's length
 pub at-below : {n : ℕ} {j : Judgment} {rs : List Row} → At n j rs → n < length rs

@@ -6,8 +6,7 @@ use mathlib.Core.Bool.{Bool, true, false, _&&_}
 use native.Mathlib.Omega.{arith}
 use lib.Dec.{leb, leb→le}
 use lib.ListN.{length}
-use Rattle.walk.specs.Syntax.{Term}
-use Rattle.walk.specs.Reader.{Read, got, bad, Reader, read-on, _>>=_, ok, terms-of, read-term, read-terms, Head, read-head, Call, read-call, read-calls, read-limit, read-run}
+use Rattle.walk.specs.Reader.{Read, got, bad, Reader, read-on, _>>=_, ok, terms-of, read-term, read-terms, read-head, Call, read-call, read-calls, read-limit, read-run}
 
 -- whatever m reads, Q holds of it
 record Reads {A : Type 0} (m : Reader A) (Q : A → Type 0) : Type 0 where

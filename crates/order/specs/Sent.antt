@@ -1,16 +1,16 @@
 -- What is sent: a call that is let in has at most 33 dimensions and no number above 32.
-use Prim.Native.Nat.{ℕ, _+_, _*_, _≤_, max}
+use Prim.Native.Nat.{ℕ, _+_, _≤_, max}
 use mathlib.Core.Path.{_≡_, refl, subst}
 use mathlib.Core.List.{List, [], _∷_, _++_}
-use mathlib.Core.Bool.{Bool, true, false, _&&_, _||_}
+use mathlib.Core.Bool.{Bool, true, false, _||_}
 use native.Mathlib.Omega.{arith}
 use lib.ListN.{length}
-use lib.Dec.{ltb, leb, leb→le, lt→ltb, T}
+use lib.Dec.{ltb, leb, lt→ltb, T}
 use native.Mathlib.Decide.{decLe}
 use Rattle.walk.specs.Syntax.{Interval, I0, I1, Dim, Neg, Meet, Join, Term, Universe, Var, Nat, Zero, Pi, Lam, App, Path, PathLam, PathApp, Context, Cons}
-use Rattle.walk.specs.Reader.{Call, Read, got, bad, read-on, read-calls, read-run}
+use Rattle.walk.specs.Reader.{Call}
 use Rattle.walk.specs.Limits.{Sized, fits, scope-over, size-over, index-over, size-on, node, size-interval, size-term, size-terms, size-call}
-use Rattle.walk.specs.Run.{scope-of, nth, Ran, refused-run, played, play-all, start, run-read, run}
+use Rattle.walk.specs.Run.{scope-of, nth}
 use Rattle.order.specs.Numbers.{interval-top, term-top, context-top, At-most, at-most-nil, at-most-cons}
 
 -- where f lets something in, its numbers, at most p, are at most 32

@@ -1,19 +1,15 @@
 -- Demand 3 of the definition of the run, from bytes: `demand-3`.
-use Prim.Native.Nat.{ℕ, _+_, _*_, _/_, _≤_, min}
-use mathlib.Core.Path.{_≡_, refl, sym, ap, subst}
+use Prim.Native.Nat.{ℕ, _+_, _≤_}
+use mathlib.Core.Path.{_≡_, refl}
 use mathlib.Core.List.{List, [], _∷_, _++_}
-use mathlib.Core.Bool.{Bool, true, false, _||_}
 use native.Mathlib.Nat.{mul-div-le}
 use native.Mathlib.Omega.{arith}
-use lib.Dec.{ltb}
-use lib.ListN.{length}
-use Rattle.walk.specs.Judgment.{Judgment}
-use Rattle.walk.specs.State.{Row, State}
+use Rattle.walk.specs.State.{State}
 use Rattle.walk.specs.Reader.{Call}
 use Rattle.walk.specs.Run.{play, play-all, start, refused-run, played, run}
-use Rattle.walk.specs.Demand.{At, Extends, same, All-stated, no-call, Demand-3}
+use Rattle.walk.specs.Demand.{Extends, same, no-call, Demand-3}
 use Rattle.walk.specs.Sound.Logic.{Good, empty, nothing}
-use Rattle.walk.specs.Calls.{All-left, play-all-left}
+use Rattle.walk.specs.Calls.{play-all-left}
 use Rattle.order.specs.Cases.{run-cases}
 use Rattle.order.specs.Counts.{played-counts}
 use Rattle.order.specs.Derivation.{derivation-order, distinct, derives, cut-order}

@@ -1,7 +1,7 @@
 -- Laws that the proofs of methods rewrite by: each reference function at a nesting that is left is its body over one less; a conversion
 -- ends; a shape is unlike the one taken apart; one round of `normalize`. Assumes nothing.
 use Prim.Native.Nat.{ℕ, zero, suc, _-_, _+_, _<_, _≤_}
-use mathlib.Core.Path.{_≡_, refl, sym, ap}
+use mathlib.Core.Path.{_≡_, refl}
 use mathlib.Core.Bool.{Bool}
 use mathlib.Core.List.{List, [], _∷_}
 use mathlib.Core.Logic.{inl, inr}

@@ -1,11 +1,10 @@
 -- Contexts: the dimension shift, and a variable's type. Assumes nothing.
 use Prim.Native.Nat.{ℕ, _-_}
-use mathlib.Core.Bool.{Bool, true, false}
-use lib.Dec.{ltb, leb, eqb}
+use lib.Dec.{eqb}
 use Rattle.producer.specs.declared.rows.Refs.{Refs}
-use Rattle.producer.specs.declared.transforms.Op.the-variants.{Shift, Subst, DShift, DSubst}
+use Rattle.producer.specs.declared.transforms.Op.the-variants.{Shift, DShift}
 use Rattle.walk.specs.Rule as R
-use Rattle.producer.specs.Machine.{W, _>>=_, give, stop, when_then_else_, open-cell, lowest, intern, make-cons, emit, no-refs, refs-1, refs-2}
+use Rattle.producer.specs.Machine.{W, _>>=_, give, stop, when_then_else_, open-cell, lowest, make-cons, emit, no-refs, refs-1, refs-2}
 use Rattle.producer.specs.Callees.{Callees}
 
 -- the row of a context or of a type, once that is there

@@ -1,12 +1,11 @@
 -- Equality: root reductions, normal forms, equal terms. Assumes nothing.
 use Prim.Native.Nat.{ℕ, zero, suc}
-use mathlib.Core.Bool.{Bool, true, false}
 use mathlib.Core.Option.{Option, none, some}
-use lib.Dec.{ltb, leb, eqb}
-use Rattle.producer.specs.declared.transforms.Op.the-variants.{Shift, Subst, DShift, DSubst}
+use lib.Dec.{eqb}
+use Rattle.producer.specs.declared.transforms.Op.the-variants.{Subst, DSubst}
 use Rattle.walk.specs.Rule as R
 use Rattle.producer.specs.Machine.{W, Reduction, _>>=_, give, stop, when_then_else_, open-cell, same-quote, at-lam, at-plam, make-cons, emit-eq, refs-1, refs-2, refs-3, refs-5, refs-6}
-use Rattle.producer.specs.Callees.{Callees, prepared, for-call}
+use Rattle.producer.specs.Callees.{Callees, for-call}
 use Rattle.producer.specs.Typing.{as-path}
 
 unfoldable pub beta-row : Callees → (d g t body r b x y z arg : ℕ) → W (Option Reduction)

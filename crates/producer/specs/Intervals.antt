@@ -1,13 +1,13 @@
 -- Intervals: the judgment, shifts and substitutions of dimensions. Assumes nothing.
 use Prim.Native.Nat.{ℕ, _-_}
-use mathlib.Core.Bool.{Bool, true, false}
-use lib.Dec.{ltb, leb, eqb}
+use mathlib.Core.Bool.{true, false}
+use lib.Dec.{ltb, eqb}
 use Rattle.ast.specs.Words.{up}
 use Rattle.producer.specs.declared.rows.Refs.{Refs}
 use Rattle.producer.specs.declared.intervals.IOp.{IOp}
 use Rattle.producer.specs.declared.intervals.IOp.the-variants.{IShift, ISubst}
 use Rattle.walk.specs.Rule as R
-use Rattle.producer.specs.Machine.{W, _>>=_, give, when_then_else_, open-cell, lowest, intern, make-dim, make-neg, make-meet, make-join, emit, no-refs, refs-1, refs-2}
+use Rattle.producer.specs.Machine.{W, _>>=_, give, when_then_else_, open-cell, lowest, intern, make-dim, make-neg, emit, no-refs, refs-1, refs-2}
 use Rattle.producer.specs.Callees.{Callees}
 
 -- a meet or a join

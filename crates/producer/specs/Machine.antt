@@ -1,14 +1,14 @@
 -- The machine over words, and its steps: what a method of `State` is proved equal to. A term is the number of its cell.
 -- A row: 24 words as document 01 has them; its first working word is free, the second is the judgment's kind. Assumes nothing.
-use Prim.Native.Nat.{ℕ, zero, suc, _+_, _*_, _-_}
+use Prim.Native.Nat.{ℕ, _+_, _*_, _-_}
 use mathlib.Core.Bool.{Bool, true, false}
 use mathlib.Core.List.{List, [], _∷_}
 use mathlib.Core.Option.{Option, none, some}
 use lib.ListN.{getD}
 use lib.Seq.{sets}
-use lib.Dec.{ltb, leb, eqb}
+use lib.Dec.{ltb, eqb}
 use Rattle.ast.specs.Words.{ifb, up, greater-of, all-eq}
-use Rattle.ast.specs.Cells.{on-found, first-of, last-of, cell-of, quote-of, same-quote-of, shape-of, same-node, lowest-of, recall-of}
+use Rattle.ast.specs.Cells.{first-of, last-of, cell-of, quote-of, same-quote-of, shape-of, same-node, lowest-of, recall-of}
 use Rattle.ast.specs.declared.cells.Cell.{Cell}
 use Rattle.ast.specs.declared.cells.Shape.{Shape}
 use Rattle.ast.specs.declared.cells.Shape.the-variants.{Universe, Pi, Lam, Path, Plam, Other}

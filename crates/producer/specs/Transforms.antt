@@ -1,7 +1,7 @@
 -- Transforms of terms: shifts and substitutions, of variables and of dimensions. Assumes nothing.
 use Prim.Native.Nat.{ℕ, _-_}
 use mathlib.Core.Bool.{Bool, true, false}
-use lib.Dec.{ltb, leb, eqb}
+use lib.Dec.{ltb, eqb}
 use Rattle.ast.specs.Words.{up}
 use Rattle.ast.specs.declared.cells.Cell.{Cell}
 use Rattle.producer.specs.declared.rows.Refs.{Refs}
@@ -9,7 +9,7 @@ use Rattle.producer.specs.declared.intervals.IOp.the-variants.{IShift, I
 use Rattle.producer.specs.declared.transforms.Op.{Op}
 use Rattle.producer.specs.declared.transforms.Op.the-variants.{Shift, Subst, DShift, DSubst}
 use Rattle.walk.specs.Rule as R
-use Rattle.producer.specs.Machine.{W, _>>=_, give, when_then_else_, open-cell, lowest, intern, make-var, make-pi, make-lam, make-app, make-path, make-plam, make-papp, emit, no-refs, refs-1, refs-2, refs-3, cons-refs, join-refs}
+use Rattle.producer.specs.Machine.{W, _>>=_, give, when_then_else_, open-cell, lowest, make-var, make-pi, make-lam, make-app, make-path, make-plam, make-papp, emit, no-refs, refs-1, refs-2, refs-3, cons-refs, join-refs}
 use Rattle.producer.specs.Callees.{Callees}
 
 unfoldable pub by-op : Op → (a b c d : ℕ) → ℕ

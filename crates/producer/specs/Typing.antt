@@ -1,14 +1,13 @@
 -- Typing: contexts, inference, universes, checks, exposed types. Assumes nothing.
 use Prim.Native.Nat.{ℕ}
-use mathlib.Core.Bool.{Bool, true, false}
-use lib.Dec.{ltb, leb, eqb}
+use lib.Dec.{eqb}
 use Rattle.ast.specs.Words.{up, greater-of}
 use Rattle.ast.specs.declared.cells.Cell.{Cell}
 use Rattle.producer.specs.declared.rows.Refs.{Refs}
-use Rattle.producer.specs.declared.transforms.Op.the-variants.{Shift, Subst, DShift, DSubst}
+use Rattle.producer.specs.declared.transforms.Op.the-variants.{Subst, DSubst}
 use Rattle.walk.specs.Rule as R
-use Rattle.producer.specs.Machine.{W, Finding, _>>=_, give, stop, when_then_else_, open-cell, lowest, same-quote, at-universe, at-pi, at-path, intern, make-universe, make-nat, make-pi, make-path, make-i0, make-i1, make-cons, emit, emit-has, known-row, recall-or, remember, converting, no-refs, refs-1, refs-2, refs-3, refs-4, refs-7, refs-10}
-use Rattle.producer.specs.Callees.{Callees, prepared, for-call}
+use Rattle.producer.specs.Machine.{W, Finding, _>>=_, give, stop, when_then_else_, open-cell, same-quote, at-universe, at-pi, at-path, intern, make-universe, make-pi, make-path, make-i0, make-i1, make-cons, emit, emit-has, known-row, recall-or, remember, converting, no-refs, refs-1, refs-2, refs-3, refs-4, refs-7, refs-10}
+use Rattle.producer.specs.Callees.{Callees, for-call}
 
 -- a longer context
 unfoldable pub ctx-cons : Callees → (d q a g : ℕ) → W ℕ

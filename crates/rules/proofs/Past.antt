@@ -1,7 +1,7 @@
 -- Past the last rule, judgment and node names are empty, and nothing is taken or shown; the laws of names at each of the three.
 -- Assumes nothing.
 use mathlib.Core.Path.{_≡_, ap, sym}
-use mathlib.Core.List.{List, []}
+use mathlib.Core.List.{[]}
 use Prim.Native.Nat.{ℕ, _+_, _*_, _<_, _≤_}
 use native.Mathlib.Nat.{le-trans}
 use lib.ListN.{length, getD, List·getD-eq-default}

@@ -2,10 +2,8 @@
 -- Assumes nothing.
 use Prim.Native.Nat.{ℕ}
 use mathlib.Core.Path.{_≡_, refl, _∙_, ap}
-use mathlib.Core.List.{List, [], _∷_, map}
-use lib.ListN.{length}
-use Rattle.walk.specs.Syntax.{Interval, Quote, Quotes}
-use Rattle.walk.specs.Judgment.{Judgment, ctx, dshiftctx, lookup, lt, le, max, interval, ishift, isubst, shift, subst, dshift, dsubst, has, eq}
+use mathlib.Core.List.{List, map}
+use Rattle.walk.specs.Judgment.{Judgment, Argument, number, of-interval, of-quote, of-context, arguments, ctx, dshiftctx, lookup, lt, le, max, interval, ishift, isubst, shift, subst, dshift, dsubst, has, eq}
 use Rattle.walk.specs.Rules as R
 use Rattle.rules.specs.Kinds as K
 
@@ -27,35 +25,12 @@ kind (dsubst t k r t′) = 12
 kind (has d g t A) = 13
 kind (eq d g a b A) = 14
 
--- Its arguments, in order.
-pub data Argument : Type 0 where
-  a-number : ℕ → Argument
-  a-term : Quote → Argument
-  an-interval : Interval → Argument
-  a-context : Quotes → Argument
-
-abbrev pub arguments : Judgment → List Argument
-arguments (ctx d g) = a-number d ∷ a-context g ∷ []
-arguments (dshiftctx g k g′) = a-context g ∷ a-number k ∷ a-context g′ ∷ []
-arguments (lookup g n A) = a-context g ∷ a-number n ∷ a-term A ∷ []
-arguments (lt m n) = a-number m ∷ a-number n ∷ []
-arguments (le m n) = a-number m ∷ a-number n ∷ []
-arguments (max m n k) = a-number m ∷ a-number n ∷ a-number k ∷ []
-arguments (interval d r) = a-number d ∷ an-interval r ∷ []
-arguments (ishift r k r′) = an-interval r ∷ a-number k ∷ an-interval r′ ∷ []
-arguments (isubst r k s r′) = an-interval r ∷ a-number k ∷ an-interval s ∷ an-interval r′ ∷ []
-arguments (shift t k t′) = a-term t ∷ a-number k ∷ a-term t′ ∷ []
-arguments (subst t k s t′) = a-term t ∷ a-number k ∷ a-term s ∷ a-term t′ ∷ []
-arguments (dshift t k t′) = a-term t ∷ a-number k ∷ a-term t′ ∷ []
-arguments (dsubst t k r t′) = a-term t ∷ a-number k ∷ an-interval r ∷ a-term t′ ∷ []
-arguments (has d g t A) = a-number d ∷ a-context g ∷ a-term t ∷ a-term A ∷ []
-arguments (eq d g a b A) = a-number d ∷ a-context g ∷ a-term a ∷ a-term b ∷ a-term A ∷ []
-
+-- The sort of an argument, as the table of judgments has it.
 abbrev pub sort : Argument → ℕ
-sort (a-number n) = K.number
-sort (a-term t) = K.term
-sort (an-interval r) = K.interval
-sort (a-context g) = K.context
+sort (number n) = K.number
+sort (of-quote t) = K.term
+sort (of-interval r) = K.interval
+sort (of-context g) = K.context
 
 -- The table of judgments has the sorts of each.
 pub sorted : (j : Judgment) → map sort (arguments j) ≡ K.sorts-of (kind j)

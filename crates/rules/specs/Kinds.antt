@@ -3,7 +3,7 @@
 use Prim.Native.Nat.{ℕ}
 use Prim.Native.String.{String}
 use mathlib.Core.List.{List, [], _∷_, _++_}
-use lib.ListN.{length, getD, replicate}
+use lib.ListN.{getD, replicate}
 
 -- The sorts of arguments and parts: a number stands as itself, the others as a cell.
 abbrev pub absent : ℕ

@@ -5,8 +5,8 @@ use Prim.Native.Char.{code}
 use Prim.Native.String.{String, [], _∷_}
 use mathlib.Core.List.{List, [] as []ᴸ, _∷_ as _∷ᴸ_}
 use lib.ListN.{getD}
-use Rattle.walk.specs.Rule.{Named, rules}
-use Rattle.rules.specs.Kinds.{Form, judgments, Node, nodes}
+use Rattle.walk.specs.Rule.{rules}
+use Rattle.rules.specs.Kinds.{judgments, nodes}
 use Rattle.rules.specs.declared.Name.{Name}
 use Rattle.rules.specs.declared.Name.the-variants.{Rule, Judgment, Node as Of-node}
 

@@ -1,15 +1,15 @@
 -- Laws that the proofs rewrite by: what recurses, where nothing is left and where something is.
-use Prim.Native.Nat.{ℕ, zero, suc, _+_, _*_, _-_, _<_, _≤_}
+use Prim.Native.Nat.{ℕ, zero, suc, _*_, _-_, _<_, _≤_}
 use mathlib.Core.Path.{_≡_, refl}
 use native.Mathlib.Omega.{arith}
 use mathlib.Core.List.{List, [], _∷_}
 use lib.Seq.{sets}
 use native.Mathlib.Numerals.{sub-one}
 use Rattle.ast.specs.Words.{up}
-use Rattle.producer.specs.Machine.{Machine, _>>=_, give, stop, intern, end-2}
+use Rattle.producer.specs.Machine.{Machine, give, stop, end-2}
 use Rattle.producer.specs.declared.state.Two.{Two}
 use Rattle.producer.specs.declared.state.Two.the-variants.{Pair, Refused}
-use Rattle.run.specs.Run.{Told, told, turn-end, answered-of, turned, Played, played}
+use Rattle.run.specs.Run.{Told, told, turn-end, answered-of, turned, played}
 use Rattle.run.specs.Build.{built-body, built, scoped, scoped-body}
 
 pub built-none : (k : ℕ) (bytes : List ℕ) (at : ℕ) (w : Machine) → k ≡ 0 → built k bytes at w ≡ stop 3 w

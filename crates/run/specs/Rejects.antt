@@ -8,7 +8,7 @@ use mathlib.Core.Bool.{Bool, true, false}
 use native.Mathlib.Omega.{arith}
 use borrow.Author.Tests.{ltb-true}
 use lib.Dec.{ltb, lit≤}
-use lib.ListN.{length, getD, replicate}
+use lib.ListN.{getD, replicate}
 use Rattle.walk.specs.Syntax.{Nat, Universe, Pi}
 use Rattle.walk.specs.Rule as R
 use Rattle.walk.specs.State.{Row, Thing, term, interval, context, inference, key}

@@ -12,10 +12,10 @@ use lib.ListN.{length, getD, drop, set}
 use lib.Seq.{sets}
 use Rattle.walk.specs.Reader.{Read, got, bad, Code, c-context, c-universe, c-infer, c-check, c-normalise, c-equal, codes, Call, read-run}
 use Rattle.syntax.specs.Told.{code-number, call-at, next-of, next-in, told, unless-long, scanned}
-use Rattle.syntax.specs.Calls.{CallAt, CallsAt, FirstCall, first-call, last-call, RunIs, run-is}
+use Rattle.syntax.specs.Calls.{CallsAt, FirstCall, first-call, last-call, run-is}
 use Rattle.syntax.specs.Codes.{codes-of, codes-in, unless-over, call-codes, Readable}
 use Rattle.syntax.specs.declared.scan.Next.{Next}
-use Rattle.syntax.specs.declared.scan.Next.the-variants.{Past, Bad, Short}
+use Rattle.syntax.specs.declared.scan.Next.the-variants.{Past}
 use Rattle.syntax.specs.declared.scan.Scanned.the-variants.{Calls, Refused}
 use Rattle.syntax.proofs.Runs.{past-call}
 

@@ -8,7 +8,7 @@ use native.Mathlib.Omega.{arith}
 use borrow.Author.Tests.{ltb-false}
 use lib.Dec.{ltb, leb}
 use Rattle.walk.specs.Syntax.{Interval, I0, I1, Dim, Neg, Meet, Join, Term, Universe, Var, Nat, Zero, Pi, Lam, App, Path, PathLam, PathApp}
-use Rattle.walk.specs.Reader.{got, bad, Reader, read-on, _>>=_, ok, byte, one-of, k-u, k-v, k-nat, k-zero, k-pi, k-lam, k-app, k-path, k-plam, k-papp, k-0, k-1, k-dim, k-neg, k-meet, k-join, kinds, ikinds, read-interval, read-term}
+use Rattle.walk.specs.Reader.{got, Reader, read-on, _>>=_, ok, byte, one-of, k-u, k-v, k-nat, k-zero, k-pi, k-lam, k-app, k-path, k-plam, k-papp, k-0, k-1, k-dim, k-neg, k-meet, k-join, kinds, ikinds, read-interval, read-term}
 use Rattle.walk.specs.Limits.{Sized, fits, size-over, index-over, size-on, node, size-interval, size-term}
 use Rattle.syntax.specs.Calls.{twice, size-first}
 

@@ -1,6 +1,6 @@
 -- Laws of the definitions, by which the functions' proofs go. Assumes nothing.
 use mathlib.Core.Path.{_≡_, refl, sym, ap, _∙_}
-use mathlib.Core.Bool.{Bool, true, false, _&&_, and-eq-true-iff}
+use mathlib.Core.Bool.{Bool, true, _&&_, and-eq-true-iff}
 use mathlib.Core.List.{List, [], _∷_, _++_}
 use Prim.Native.Nat.{ℕ, zero, suc, _+_, _-_, _/_, _<_, _≤_}
 use native.Mathlib.Nat.{sub-zero}
@@ -8,7 +8,7 @@ use native.Mathlib.Numerals.{sub-one}
 use native.Mathlib.Decide.{decLt}
 use native.Mathlib.Omega.{arith}
 use borrow.Author.Tests.{lt-ltb, le-ltb, eq-eqb, ne-eqb, eqb-true, leb-true}
-use lib.Dec.{ltb, leb, eqb}
+use lib.Dec.{leb, eqb}
 use lib.ListN.{length, getD}
 use Rattle.text.specs.Text.{Text, each, digit, digits, decimal, row-word, argument, part-as, node-as, reference, some-refs}
 use Rattle.text.specs.Listing.{call-line, row-line, totals, refused-listing, read-listing}

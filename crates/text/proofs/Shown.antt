@@ -1,17 +1,16 @@
 -- What a text that is written through a window leaves in the buffer: the part from the window's start on, as far as the buffer goes; and
 -- how many bytes are left then.
 -- Assumes nothing.
-use mathlib.Core.Path.{_≡_, refl, sym, ap, _∙_}
-use mathlib.Core.Bool.{true, false}
+use mathlib.Core.Path.{_≡_, sym, ap, _∙_}
 use mathlib.Core.List.{List, [], _∷_, _++_, append-assoc, append-nil}
 use Prim.Native.Nat.{ℕ, zero, suc, _+_, _-_, _<_, _≤_, min}
-use native.Mathlib.Nat.{min-zero, zero-min, suc-min-suc, add-zero, add-suc, zero-add, suc-add, zero-sub, sub-zero, suc-sub-suc, min-le-left}
-use native.Mathlib.Numerals.{add-one, sub-one}
+use native.Mathlib.Nat.{min-zero, zero-min, suc-min-suc, add-zero, zero-add, zero-sub, sub-zero, suc-sub-suc, min-le-left}
+use native.Mathlib.Numerals.{sub-one}
 use native.Mathlib.Decide.{decLe, decLt}
 use native.Mathlib.Omega.{arith}
 use borrow.Author.Tests.{lt-ltb, le-ltb}
 use lib.Dec.{eqb·suc-zero}
-use lib.ListN.{length, take, drop, set, length-append, length-drop, drop-of-length-le}
+use lib.ListN.{length, take, drop, length-append, length-drop, drop-of-length-le}
 use lib.Seq.{take-nil, drop-nil, set-append-seam, length-take-le}
 use Rattle.text.specs.Text.{Text}
 use Rattle.text.specs.Window.{Output, output, writer, put, written, Shown}

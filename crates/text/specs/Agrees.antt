@@ -1,15 +1,15 @@
 -- Words that hold a quote, an argument, a judgment, a row or a call have its text. Assumes nothing.
-use mathlib.Core.Path.{_≡_, refl, sym, ap, _∙_}
-use mathlib.Core.List.{List, [], _∷_, _++_, append-assoc, append-nil}
+use mathlib.Core.Path.{_≡_, refl, ap, _∙_}
+use mathlib.Core.List.{List, [], _∷_, _++_, append-nil}
 use Prim.Native.Nat.{ℕ, zero, suc, _+_, min}
 use native.Mathlib.Nat.{min-eq-right}
 use lib.ListN.{length}
 use Rattle.walk.specs.Syntax.{Interval, Quote, Quotes}
-use Rattle.walk.specs.Judgment.{Judgment, ctx, dshiftctx, lookup, lt, le, max, interval, ishift, isubst, shift, subst, dshift, dsubst, has, eq}
+use Rattle.walk.specs.Judgment.{Judgment, ctx, dshiftctx, lookup, lt, le, max, interval, ishift, isubst, shift, subst, dshift, dsubst, has, eq, Argument, arguments}
 use Rattle.rules.specs.Names.{bytes, judgment-name, node-name}
 use Rattle.rules.specs.Kinds.{sorts-of, sort-of, parts-of, part-of, kind-of}
-use Rattle.rules.specs.Concludes.{kind, Argument, a-number, a-term, an-interval, a-context, sort, arguments}
-use Rattle.text.specs.Text.{Text, decimal, cell-word, argument, node-as, lower, quote, row-word, judgment-as, each, reference, some-refs, refs}
+use Rattle.rules.specs.Concludes.{kind, sort}
+use Rattle.text.specs.Text.{Text, decimal, cell-word, argument, node-as, lower, quote, judgment-as, each, reference, some-refs, refs}
 use Rattle.text.specs.Listing.{call-row, result, call-result, call-head, call-line, row-head, row-line}
 use Rattle.walk.specs.State.{Row}
 use Rattle.walk.specs.Reader.{Code}

@@ -1,7 +1,7 @@
 -- The listing of a run: lines over the words of its answers, rows and cells, and the codes of its calls. Assumes nothing.
 use Prim.Native.Nat.{ℕ}
-use mathlib.Core.Bool.{Bool, true, false, _||_}
-use mathlib.Core.List.{List, [], _∷_, _++_}
+use mathlib.Core.Bool.{true, false}
+use mathlib.Core.List.{List, _++_}
 use lib.Dec.{eqb}
 use Rattle.rules.specs.Names.{bytes, rule-name}
 use Rattle.text.specs.Text.{Text, each, decimal, row-word, quote, refs, rule, judgment}

@@ -1,16 +1,16 @@
 -- The words' number of repeats is the walk's, where the words hold the calls' codes and answers. Assumes nothing.
 use mathlib.Core.Path.{_≡_, refl, sym, ap, _∙_}
-use mathlib.Core.Bool.{Bool, true, false}
+use mathlib.Core.Bool.{true, false}
 use mathlib.Core.List.{List, [], _∷_, map}
-use Prim.Native.Nat.{ℕ, zero, suc, _+_}
+use Prim.Native.Nat.{ℕ}
 use native.Mathlib.Decide.{ℕ-discrete}
 use borrow.Author.Tests.{eq-eqb, ne-eqb}
 use lib.ListN.{length, getD}
 use mathlib.Core.Option.{some, none}
 use Rattle.walk.specs.Reader.{Call, Code, Code-discrete, codes, c-context, c-universe, c-infer, c-check, c-normalise, c-equal}
 use Rattle.walk.specs.Run as R
-use Rattle.text.specs.Repeats.{Accepted, answer-word, code, call, with-call, accepted, same, occurs, repeats-after, repeats}
-use Rattle.text.specs.Said.{code-number, Call-in, Calls-in, no-calls, and-call}
+use Rattle.text.specs.Repeats.{Accepted, code, call, with-call, accepted, same, occurs, repeats-after, repeats}
+use Rattle.text.specs.Said.{code-number, Calls-in, no-calls, and-call}
 use Rattle.text.specs.Counting.{with-yes, with-no, occurs-yes, occurs-no}
 
 abbrev words : R.Accepted → Accepted

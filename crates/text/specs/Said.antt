@@ -1,19 +1,19 @@
 -- The same texts over the walk's own data: intervals, quotes, contexts, judgments and rows, with no words. What it is that words hold
 -- them. That the two agree is in Agrees, and of repeats in Repeated. Assumes nothing.
 use Prim.Native.Nat.{ℕ, suc, _+_, _<_, _≤_}
-use Prim.Native.String.{String}
 use mathlib.Core.Path.{_≡_}
 use mathlib.Core.List.{List, [], _∷_, _++_}
 use Rattle.walk.specs.Syntax.{Term, quote, Interval, I0, I1, Dim, Neg, Meet, Join, Quote, u, v, nat, zero, pi, lam, app, path, plam, papp, Quotes, nil, cons}
-use Rattle.walk.specs.Judgment.{Judgment}
+use Rattle.walk.specs.Judgment.{Judgment, Argument, arguments}
+use Rattle.walk.specs.Judgment as J
 use Rattle.walk.specs.State.{Row}
 use Rattle.walk.specs.Reader.{Call, Code, c-context, c-universe, c-infer, c-check, c-normalise, c-equal}
-use Rattle.walk.specs.Run.{Result, no-result, a-level, a-term as a-term-result, Answer}
+use Rattle.walk.specs.Run.{Result, no-result, a-level, a-term, Answer}
 use mathlib.Core.Bool.{true, false}
 use lib.Dec.{eqb}
 use lib.ListN.{length}
 use Rattle.rules.specs.Names.{bytes, rule-name, judgment-name}
-use Rattle.rules.specs.Concludes.{kind, Argument, a-number, a-term, an-interval, a-context, arguments}
+use Rattle.rules.specs.Concludes.{kind}
 use Rattle.text.specs.Text.{Text, decimal, cell-word, row-word}
 use Rattle.text.specs.Repeats.{answer-word, code}
 
@@ -51,10 +51,10 @@ context-text nil = bytes "nil"
 context-text (cons a g) = called (bytes "cons") (quote-text a ∷ context-text g ∷ [])
 
 unfoldable pub argument-text : Argument → Text
-argument-text (a-number n) = decimal n
-argument-text (a-term t) = quote-text t
-argument-text (an-interval r) = interval-text r
-argument-text (a-context g) = context-text g
+argument-text (J.number n) = decimal n
+argument-text (J.of-quote t) = quote-text t
+argument-text (J.of-interval r) = interval-text r
+argument-text (J.of-context g) = context-text g
 
 abbrev pub all-texts : List Argument → List Text
 all-texts [] = []
@@ -95,10 +95,10 @@ pub data Context-cell (C : List ℕ) : ℕ → Quotes → Type 0 where
 
 -- A word holds an argument: a number itself, any other by a cell with that quote.
 pub data Argument-word (C : List ℕ) : ℕ → Argument → Type 0 where
-  word-number : {n : ℕ} → Argument-word C n (a-number n)
-  word-term : {i : ℕ} {t : Quote} → Quote-cell C i t → Argument-word C i (a-term t)
-  word-interval : {i : ℕ} {r : Interval} → Interval-cell C i r → Argument-word C i (an-interval r)
-  word-context : {i : ℕ} {g : Quotes} → Context-cell C i g → Argument-word C i (a-context g)
+  word-number : {n : ℕ} → Argument-word C n (J.number n)
+  word-term : {i : ℕ} {t : Quote} → Quote-cell C i t → Argument-word C i (J.of-quote t)
+  word-interval : {i : ℕ} {r : Interval} → Interval-cell C i r → Argument-word C i (J.of-interval r)
+  word-context : {i : ℕ} {g : Quotes} → Context-cell C i g → Argument-word C i (J.of-context g)
 
 -- Row i holds these arguments, from the n-th place on.
 pub data Arguments-in (R C : List ℕ) (i : ℕ) : ℕ → List Argument → Type 0 where
@@ -147,7 +147,7 @@ code-number c-equal = 5
 unfoldable pub result-text : Result → Text
 result-text no-result = bytes "-"
 result-text (a-level l) = decimal l
-result-text (a-term-result t) = quote-text (quote t)
+result-text (a-term t) = quote-text (quote t)
 
 -- The row of an accepted call, else -.
 unfoldable pub accepted-row : ℕ → ℕ → Text
@@ -161,9 +161,9 @@ call-text i a = decimal i ++ bytes " " ++ decimal (a .number) ++ bytes " " ++ ac
 pub data Result-in (C : List ℕ) (x : ℕ) : Code → Result → Type 0 where
   of-context : Result-in C x c-context no-result
   of-universe : Result-in C x c-universe (a-level x)
-  of-infer : {t : Term} → Quote-cell C x (quote t) → Result-in C x c-infer (a-term-result t)
+  of-infer : {t : Term} → Quote-cell C x (quote t) → Result-in C x c-infer (a-term t)
   of-check : Result-in C x c-check no-result
-  of-normalise : {t : Term} → Quote-cell C x (quote t) → Result-in C x c-normalise (a-term-result t)
+  of-normalise : {t : Term} → Quote-cell C x (quote t) → Result-in C x c-normalise (a-term t)
   of-equal : Result-in C x c-equal no-result
 
 -- An accepted call has its result in the word; a refused one has none.

@@ -1,6 +1,6 @@
 // The listing's text, written through a window into a lent buffer.
 ghost use mathlib.Core.Path.{_≡_};
-ghost use Prim.Native.Nat.{ℕ, _+_, _*_, _%_, _≤_, min};
+ghost use Prim.Native.Nat.{_+_, _*_, _%_, _≤_, min};
 ghost use lib.ListN.{length, getD, take};
 ghost use Rattle.rules.specs.Names.{name-of};
 ghost use Rattle.text.specs.Text.{each, digit, decimal, cell-word, row-word, lower, part-as, quote, refs, reference, place, judgment-as};

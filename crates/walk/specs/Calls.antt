@@ -10,9 +10,9 @@ use Rattle.walk.specs.State.{Row, State, Outcome, with-deepest}
 use Rattle.walk.specs.Walk.{Callees, callees, typing, equation}
 use Rattle.walk.specs.Reader.{Code, c-context, c-universe, c-infer, c-check, c-normalise, c-equal, Call}
 use Rattle.walk.specs.Limits.{Sized, scope-over, size-over, index-over, fits, size-call}
-use Rattle.walk.specs.Run.{Result, no-result, a-level, a-term, Answer, answered, scope-of, nth, walk, play-sized, play, play-all}
-use Rattle.walk.specs.Demand.{At, Extends, same, of-none, of-level, of-answer, scope, judgment-of, Stated, All-stated, no-call, call-on}
-use Rattle.walk.specs.Sound.Logic.{Good, extends-trans, lift, After, fine, stopped, Keeps}
+use Rattle.walk.specs.Run.{Result, Answer, answered, scope-of, nth, walk, play-sized, play, play-all}
+use Rattle.walk.specs.Demand.{At, Extends, same, of-none, of-level, of-answer, judgment-of, Stated, All-stated, no-call, call-on}
+use Rattle.walk.specs.Sound.Logic.{Good, extends-trans, lift, After, fine, stopped}
 use Rattle.walk.specs.Sound.Says.{Sound}
 use Rattle.walk.specs.Sound.{sound}
 

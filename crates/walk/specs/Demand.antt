@@ -10,7 +10,7 @@ use lib.ListN.{length}
 use Rattle.walk.specs.Syntax.{Term, Universe, Context, Nil, quotes}
 use Rattle.walk.specs.Judgment.{Judgment, ctx}
 use Rattle.walk.specs.Rules.{Follows}
-use Rattle.walk.specs.State.{Row, State}
+use Rattle.walk.specs.State.{Row}
 use Rattle.walk.specs.Walk.{typing, equation}
 use Rattle.walk.specs.Reader.{c-context, c-universe, c-infer, c-check, c-normalise, c-equal, Call}
 use Rattle.walk.specs.Run.{Result, no-result, a-level, a-term, Answer, Ran, scope-of, nth, play-all, start}

@@ -9,8 +9,8 @@ use lib.ListN.{length}
 use Rattle.walk.specs.Syntax.{Universe, Nat, Zero, Pi, nil, cons, u, v, nat, zero, pi, lam, app}
 use Rattle.walk.specs.Judgment.{Judgment, ctx, lookup, shift, subst, has, eq}
 use Rattle.walk.specs.Rule as R
-use Rattle.walk.specs.State.{Row, State}
-use Rattle.walk.specs.Run.{Ran, Answer, Result, no-result, a-level, a-term, run, repeats}
+use Rattle.walk.specs.State.{Row}
+use Rattle.walk.specs.Run.{Ran, Answer, Result, no-result, a-term, run, repeats}
 use Rattle.walk.specs.Opened.{opened}
 
 -- an answer: number, row, result, deepest

@@ -1,7 +1,7 @@
 -- The limits of a call, refusals 5 to 7: syntax.rs, `term`, `interval` and `limits`, and `validate` of producer.rs (where document 01 has 33 for 32).
-use Prim.Native.Nat.{ℕ, suc, _+_}
+use Prim.Native.Nat.{ℕ, _+_}
 use mathlib.Core.List.{List, [], _∷_, _++_}
-use mathlib.Core.Bool.{Bool, true, false, _||_}
+use mathlib.Core.Bool.{true, false, _||_}
 use lib.Dec.{ltb, leb}
 use lib.ListN.{length}
 use Rattle.walk.specs.Syntax.{Interval, I0, I1, Dim, Neg, Meet, Join, Term, Universe, Var, Nat, Zero, Pi, Lam, App, Path, PathLam, PathApp}

@@ -1,7 +1,7 @@
 -- A run: its bytes and the lengths of the three slices in, its own answer, the answers of its calls and the last state out.
-use Prim.Native.Nat.{ℕ, suc, _+_, _*_, _/_, min}
+use Prim.Native.Nat.{ℕ, _+_, _*_, _/_, min}
 use mathlib.Core.List.{List, [], _∷_}
-use mathlib.Core.Bool.{Bool, true, false, _&&_, _||_}
+use mathlib.Core.Bool.{true, false, _||_}
 use native.Mathlib.Decide.{ℕ-discrete}
 use lib.Dec.{ltb}
 use lib.ListN.{length, getD}

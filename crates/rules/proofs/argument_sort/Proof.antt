@@ -1,5 +1,4 @@
 -- `rules::argument_sort` meets its contract: the table is the list of the arguments' sorts, which antt computes.
-use mathlib.Core.Path.{ap}
 use borrow.Author.Needs.{needs}
 use Rattle.rules.specs.Kinds.{sorts-of, sort-of}
 use Rattle.rules.proofs.Table.{at-row}

@@ -1,18 +1,18 @@
 -- A call's bytes: its context and its terms become their cells, and the call over them is `link`'s.
-use Prim.Native.Nat.{ℕ, zero, suc, _+_, _≤_, _<_}
+use Prim.Native.Nat.{ℕ, _+_, _≤_}
 use mathlib.Core.Path.{_≡_, refl, sym, ap, _∙_}
 use mathlib.Core.List.{List, [], _∷_}
 use native.Mathlib.Omega.{arith}
-use lib.ListN.{length, getD, drop}
+use lib.ListN.{length, drop}
 use Rattle.ast.specs.Words.{up}
 use Rattle.producer.specs.Machine.{W, _>>=_, give, when_then_else_, intern, make-nil, make-cons}
 use Rattle.producer.specs.Callees.{Callees, prepared}
 use Rattle.producer.specs.Calls.{callees}
 use Rattle.walk.specs.Syntax.{Term, Context, Nil, Cons}
-use Rattle.walk.specs.Reader.{Read, got, bad, Code, c-context, c-universe, c-infer, c-check, c-normalise, c-equal, codes, terms-of, Call}
-use Rattle.walk.specs.Limits.{Sized, fits, size-term, size-terms, size-call}
+use Rattle.walk.specs.Reader.{Code, c-context, c-universe, c-infer, c-check, c-normalise, c-equal, terms-of, Call}
+use Rattle.walk.specs.Limits.{fits, size-terms, size-call}
 use Rattle.walk.specs.Run.{scope-of, nth}
-use Rattle.syntax.specs.Told.{term-at, code-number}
+use Rattle.syntax.specs.Told.{code-number}
 use Rattle.syntax.specs.Calls.{TermsAt, no-terms, next-term, CallAt, call-head, CallFits, call-fits, size-terms-first}
 use Rattle.syntax.specs.Fuel.{fit-term}
 use Rattle.link.specs.Asked.{build-term, build-context, call-ctx, call-universe, call-infer, call-check, call-normalize, call-equal}

@@ -1,12 +1,12 @@
 -- The run over its bytes is the run over the calls that are read from them: `run-is`.
-use Prim.Native.Nat.{ℕ, zero, suc, _+_, _*_, _/_, _%_, _≤_, _<_, min}
-use mathlib.Core.Path.{_≡_, refl, sym, ap, _∙_}
+use Prim.Native.Nat.{ℕ, suc, _+_, _*_, _/_, _%_, _≤_, _<_, min}
+use mathlib.Core.Path.{_≡_, refl, sym, _∙_}
 use mathlib.Core.List.{List, [], _∷_}
 use mathlib.Core.Bool.{Bool, true, false, _||_}
 use native.Mathlib.Omega.{arith}
 use borrow.Author.Tests.{ltb-true, ltb-false}
 use lib.Dec.{ltb}
-use lib.ListN.{length, getD, drop}
+use lib.ListN.{length}
 use lib.Seq.{sets}
 use Rattle.ast.specs.Words.{ifb, up}
 use Rattle.producer.specs.Machine.{Machine, machine, Result, is, not, W, next as on, _>>=_, give}
@@ -17,16 +17,16 @@ use Rattle.walk.specs.Reader.{Read, got, bad, Code, c-context, c-universe, c-in
 use Rattle.walk.specs.Limits.{Sized, fits, scope-over, size-over, index-over, size-call}
 use Rattle.walk.specs.Run.{scope-of, Ran, run-read, run}
 use Rattle.walk.specs.Run as R
-use Rattle.syntax.specs.Told.{call-at, sized, size-of, size-in, scanned, told as scan-told, unless-long}
+use Rattle.syntax.specs.Told.{sized, size-of, size-in, told as scan-told, unless-long}
 use Rattle.syntax.specs.declared.scan.Scanned.the-variants.{Calls as Scans}
 use Rattle.syntax.specs.Ends.{run-fault}
 use Rattle.syntax.specs.Calls.{CallAt, CallsAt, no-more, next-call, RunIs, run-is as read-is}
 use Rattle.link.specs.Lists.{written}
-use Rattle.link.specs.Asked.{Said, ask, ask-sized, ask-all, afresh, start, four-words, written-over, call-ctx, call-universe, call-infer, call-check, call-normalize, call-equal}
+use Rattle.link.specs.Asked.{Said, ask, ask-sized, ask-all, afresh, start, four-words, written-over}
 use Rattle.link.specs.Asked as L
 use Rattle.link.specs.Words.{said-calls}
 use Rattle.run.specs.Call.{row-alone, row-first, called}
-use Rattle.run.specs.Run.{low-of, at-most, started, Told, turn-end, refused-of, told, turned-by, turned, Played, played, Ended, end-run, refused-run, read-run as ended-read, run-by, run-of}
+use Rattle.run.specs.Run.{low-of, at-most, started, Told, refused-of, told, turned-by, turned, played, Ended, end-run, refused-run, read-run as ended-read, run-by, run-of}
 use Rattle.run.specs.Same.Terms.{up-is}
 use Rattle.run.specs.Same.Calls.{by-call, called-is}
 

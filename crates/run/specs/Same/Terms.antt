@@ -1,16 +1,16 @@
 -- The bytes of a term that was read become its cells: `built` is `build-term`.
-use Prim.Native.Nat.{ℕ, zero, suc, _+_, _%_, _≤_, _<_}
+use Prim.Native.Nat.{ℕ, zero, suc, _+_, _≤_, _<_}
 use mathlib.Core.Path.{_≡_, refl, sym, ap, _∙_}
 use mathlib.Core.List.{List}
 use native.Mathlib.Omega.{arith}
 use lib.ListN.{length, drop}
 use Rattle.ast.specs.Words.{up}
-use Rattle.producer.specs.Machine.{W, _>>=_, give, when_then_else_, intern}
+use Rattle.producer.specs.Machine.{W, _>>=_, when_then_else_, intern}
 use Rattle.walk.specs.Syntax.{Interval, I0, I1, Dim, Neg, Meet, Join, Term, Universe, Var, Nat, Zero, Pi, Lam, App, Path, PathLam, PathApp}
-use Rattle.walk.specs.Reader.{got, bad, ok, Kind, k-u, k-v, k-nat, k-zero, k-pi, k-lam, k-app, k-path, k-plam, k-papp, IKind, k-0, k-1, k-dim, k-neg, k-meet, k-join, read-interval, read-term}
+use Rattle.walk.specs.Reader.{got, Kind, k-u, k-v, k-nat, k-zero, k-pi, k-lam, k-app, k-path, k-plam, k-papp, IKind, k-0, k-1, k-dim, k-neg, k-meet, k-join, read-interval, read-term}
 use Rattle.syntax.specs.Ends.{goes-byte, goes-interval, goes-term}
 use Rattle.syntax.specs.Kinds.{kind-byte, kind-is, ikind-byte, ikind-is}
-use Rattle.syntax.specs.Nodes.{interval-of, term-of, NodeAt, interval-node, term-node, a-part, a-byte, is-ok}
+use Rattle.syntax.specs.Nodes.{interval-of, term-of, interval-node, term-node, a-part, a-byte, is-ok}
 use Rattle.link.specs.Asked.{build-interval, build-term}
 use Rattle.run.specs.Build.{byte-at, parts-of, made, Builder, built-one, built-two, built-three, built-body, built}
 use Rattle.run.specs.Same.Steps.{then-same, made-then, made-in}

@@ -1,18 +1,18 @@
 -- Every row follows by its rule from rows below it, and no judgment has two; what is remembered stands there.
 -- `Keeps rs m Q`: m keeps this, from any table that has the rows rs, and of its value Q holds.
-use Prim.Native.Nat.{ℕ, suc, _<_, _+_}
-use mathlib.Core.Path.{_≡_, refl, subst, sym}
+use Prim.Native.Nat.{ℕ, _<_, _+_}
+use mathlib.Core.Path.{_≡_, refl, subst}
 use mathlib.Core.List.{List, [], _∷_, _++_}
 use mathlib.Core.Option.{Option, none, some}
 use mathlib.Core.Bool.{Bool, true, false}
-use native.Mathlib.Decide.{ℕ-discrete, decLt}
+use native.Mathlib.Decide.{decLt}
 use native.Mathlib.Omega.{arith}
 use lib.ListN.{length}
 use lib.Dec.{lit<}
-use Rattle.walk.specs.Syntax.{Term, Context, quote, quotes, context?, term?}
+use Rattle.walk.specs.Syntax.{Term, quote, quotes}
 use Rattle.walk.specs.Judgment.{Judgment, judgment?, has}
 use Rattle.walk.specs.Rules.{Follows}
-use Rattle.walk.specs.Demand.{At, here, there, Cites, none-cited, _also_, Row-follows, Extends, same, more}
+use Rattle.walk.specs.Demand.{At, here, there, Cites, none-cited, _also_, Extends, same, more}
 use Rattle.walk.specs.State.{Row, Memory, Key, key, key?, Thing, inference, State, Outcome, done, refused, M, go-on, looking, _>>=_, pure, refuse, if_then_else_, from_get_or_, row-of, with-row, push, emit, among, with-cell, count, count-all, recall, with-memory, store, remember, with-conversions, ended, converted, converting, with-deepest, note, enter}
 
 -- a row over the rows below it

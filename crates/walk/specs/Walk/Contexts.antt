@@ -1,11 +1,10 @@
 -- ctx, dshiftctx, lookup: producer.rs, `ctx`, `dshiftctx` and `lookup`.
 use Prim.Native.Nat.{ℕ, suc}
 use mathlib.Core.List.{[], _∷_}
-use mathlib.Core.Option.{Option}
 use Rattle.walk.specs.Syntax.{Term, Context, Nil, Cons, quote, quotes}
 use Rattle.walk.specs.Judgment.{ctx, dshiftctx, lookup}
 use Rattle.walk.specs.Rule as R
-use Rattle.walk.specs.State.{State, M, looking, _>>=_, pure, refuse, from_get_or_, row-of, of-term, of-context, count-all, emit}
+use Rattle.walk.specs.State.{M, looking, _>>=_, pure, refuse, from_get_or_, row-of, of-term, of-context, count-all, emit}
 use Rattle.walk.specs.Walk.Reference.{Shift, DShift, Callees}
 
 unfoldable pub dshiftctx-body : Callees → Context → M (Context × ℕ)

@@ -6,7 +6,7 @@ use native.Mathlib.Decide.{ℕ-discrete}
 use Rattle.walk.specs.Syntax.{I0, I1, Term, Universe, Var, Nat, Zero, Pi, Lam, App, Path, PathLam, PathApp, Context, Cons, quote, quotes, quote?}
 use Rattle.walk.specs.Judgment.{Judgment, has}
 use Rattle.walk.specs.Rule as R
-use Rattle.walk.specs.State.{State, M, looking, _>>=_, pure, refuse, if_then_else_, from_get_or_, of-term, key, count-all, emit, recall, remember, converting}
+use Rattle.walk.specs.State.{M, looking, _>>=_, pure, refuse, if_then_else_, from_get_or_, of-term, key, count-all, emit, recall, remember, converting}
 use Rattle.walk.specs.Walk.Reference.{Subst, DSubst, Found, Callees}
 use Rattle.walk.specs.Walk.Numbers.{larger}
 

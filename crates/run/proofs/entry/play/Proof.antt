@@ -1,19 +1,13 @@
 -- One call of the loop is one call of the definition.
-use Prim.Native.Nat.{ℕ, _+_}
-use mathlib.Core.Path.{_≡_, refl, sym}
+use mathlib.Core.Path.{_≡_}
 use native.Mathlib.Omega.{arith}
 use lib.ListN.{length}
 use borrow.Author.Needs.{needs}
 use Rattle.producer.specs.Machine.{machine}
-use Rattle.run.specs.Run.{played, turn-end}
+use Rattle.run.specs.Run.{played}
 use Rattle.run.proofs.At as law
 use Rattle.run.proofs.entry.play.Statement.{statement}
 use Rattle.run.proofs.entry.play.Tie as tie
-use Rattle.run.proofs.entry.play.Reads as reads
-use Rattle.run.proofs.entry.play.Lts as lts
-use Rattle.ast.proofs.words.succ.Reads as succ-reads
-use Rattle.run.proofs.entry.put_answer.Reads as put-answer-reads
-use Rattle.run.proofs.entry.step.Reads as step-reads
 
 abbrev Inv-loop : tie.InvT-loop
 Inv-loop calls bytes stack₀ rows₀ cells₀ answers₀ s₀ at₀ done₀ left₀ stack rows cells answers s at done left =

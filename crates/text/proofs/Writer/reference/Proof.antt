@@ -1,7 +1,6 @@
 -- `text::Writer::reference` meets its contract.
 use native.Mathlib.Omega.{arith}
 use borrow.Author.Needs.{needs}
-use Rattle.text.specs.Text.{reference}
 use Rattle.text.proofs.Laws.{written-cons}
 use Rattle.text.proofs.Writer.reference.Statement.{statement}
 use Rattle.text.proofs.Writer.reference.Tie as tie
