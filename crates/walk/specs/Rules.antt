@@ -13,7 +13,7 @@ pub data Follows : ℕ → List Judgment → Judgment → Type 0 where
   by·dshiftctx·nil : Follows R.dshiftctx·nil [] (dshiftctx nil 0 nil)
   by·dshiftctx·cons : {g g′ : Quotes} {A A′ : Quote} → Follows R.dshiftctx·cons (dshiftctx g 0 g′ ∷ dshift A 0 A′ ∷ []) (dshiftctx (cons A g) 0 (cons A′ g′))
   by·lookup·z : {A B : Quote} {g : Quotes} → Follows R.lookup·z (shift A 0 B ∷ []) (lookup (cons A g) 0 B)
-  by·lookup·s : {g : Quotes} {n : ℕ} {A B a : Quote} → Follows R.lookup·s (lookup g n A ∷ shift A 0 B ∷ []) (lookup (cons a g) (suc n) B)
+  by·lookup·s : {g : Quotes} {n : ℕ} {A B C : Quote} → Follows R.lookup·s (lookup g n A ∷ shift A 0 B ∷ []) (lookup (cons C g) (suc n) B)
   -- numbers
   by·lt·z : {n : ℕ} → Follows R.lt·z [] (lt 0 (suc n))
   by·lt·s : {m n : ℕ} → Follows R.lt·s (lt m n ∷ []) (lt (suc m) (suc n))
@@ -53,7 +53,14 @@ pub data Follows : ℕ → List Judgment → Judgment → Type 0 where
   by·shift·pi : {a a′ b b′ : Quote} {k : ℕ} → Follows R.shift·pi (shift a k a′ ∷ shift b (suc k) b′ ∷ []) (shift (pi a b) k (pi a′ b′))
   by·shift·lam : {b b′ : Quote} {k : ℕ} → Follows R.shift·lam (shift b (suc k) b′ ∷ []) (shift (lam b) k (lam b′))
   by·shift·app : {f f′ a a′ : Quote} {k : ℕ} → Follows R.shift·app (shift f k f′ ∷ shift a k a′ ∷ []) (shift (app f a) k (app f′ a′))
-  by·shift·path : {a a′ b b′ c c′ : Quote} {k : ℕ} → Follows R.shift·path (shift a k a′ ∷ shift b k b′ ∷ shift c k c′ ∷ []) (shift (path a b c) k (path a′ b′ c′))
+  by·shift·path :
+      {a a′ b b′ c c′ : Quote} {k : ℕ} →
+      Follows R.shift·path
+      (shift a k a′
+      ∷ shift b k b′
+      ∷ shift c k c′
+      ∷ [])
+      (shift (path a b c) k (path a′ b′ c′))
   by·shift·plam : {b b′ : Quote} {k : ℕ} → Follows R.shift·plam (shift b k b′ ∷ []) (shift (plam b) k (plam b′))
   by·shift·papp : {p p′ : Quote} {k : ℕ} {r : Interval} → Follows R.shift·papp (shift p k p′ ∷ []) (shift (papp p r) k (papp p′ r))
   -- subst: x for the variable k
@@ -63,10 +70,25 @@ pub data Follows : ℕ → List Judgment → Judgment → Type 0 where
   by·subst·v·hit : {k : ℕ} {x : Quote} → Follows R.subst·v·hit [] (subst (v k) k x x)
   by·subst·v·lt : {n k : ℕ} {x : Quote} → Follows R.subst·v·lt (lt n k ∷ []) (subst (v n) k x (v n))
   by·subst·v·gt : {k n : ℕ} {x : Quote} → Follows R.subst·v·gt (lt k (suc n) ∷ []) (subst (v (suc n)) k x (v n))
-  by·subst·pi : {a x a′ x′ b b′ : Quote} {k : ℕ} → Follows R.subst·pi (subst a k x a′ ∷ shift x 0 x′ ∷ subst b (suc k) x′ b′ ∷ []) (subst (pi a b) k x (pi a′ b′))
+  by·subst·pi :
+      {a x a′ x′ b b′ : Quote} {k : ℕ} →
+      Follows R.subst·pi
+      (subst a k x a′
+      ∷ shift x 0 x′
+      ∷ subst b (suc k) x′ b′
+      ∷ [])
+      (subst (pi a b) k x (pi a′ b′))
   by·subst·lam : {x x′ b b′ : Quote} {k : ℕ} → Follows R.subst·lam (shift x 0 x′ ∷ subst b (suc k) x′ b′ ∷ []) (subst (lam b) k x (lam b′))
   by·subst·app : {f x f′ a a′ : Quote} {k : ℕ} → Follows R.subst·app (subst f k x f′ ∷ subst a k x a′ ∷ []) (subst (app f a) k x (app f′ a′))
-  by·subst·path : {x x′ a a′ b b′ c c′ : Quote} {k : ℕ} → Follows R.subst·path (dshift x 0 x′ ∷ subst a k x′ a′ ∷ subst b k x b′ ∷ subst c k x c′ ∷ []) (subst (path a b c) k x (path a′ b′ c′))
+  by·subst·path :
+      {x x′ a a′ b b′ c c′ : Quote} {k : ℕ} →
+      Follows R.subst·path
+      (dshift x 0 x′
+      ∷ subst a k x′ a′
+      ∷ subst b k x b′
+      ∷ subst c k x c′
+      ∷ [])
+      (subst (path a b c) k x (path a′ b′ c′))
   by·subst·plam : {x x′ b b′ : Quote} {k : ℕ} → Follows R.subst·plam (dshift x 0 x′ ∷ subst b k x′ b′ ∷ []) (subst (plam b) k x (plam b′))
   by·subst·papp : {p x p′ : Quote} {k : ℕ} {r : Interval} → Follows R.subst·papp (subst p k x p′ ∷ []) (subst (papp p r) k x (papp p′ r))
   -- dshift: dimensions from k on, up by one
@@ -77,7 +99,14 @@ pub data Follows : ℕ → List Judgment → Judgment → Type 0 where
   by·dshift·pi : {a a′ b b′ : Quote} {k : ℕ} → Follows R.dshift·pi (dshift a k a′ ∷ dshift b k b′ ∷ []) (dshift (pi a b) k (pi a′ b′))
   by·dshift·lam : {b b′ : Quote} {k : ℕ} → Follows R.dshift·lam (dshift b k b′ ∷ []) (dshift (lam b) k (lam b′))
   by·dshift·app : {f f′ a a′ : Quote} {k : ℕ} → Follows R.dshift·app (dshift f k f′ ∷ dshift a k a′ ∷ []) (dshift (app f a) k (app f′ a′))
-  by·dshift·path : {a a′ b b′ c c′ : Quote} {k : ℕ} → Follows R.dshift·path (dshift a (suc k) a′ ∷ dshift b k b′ ∷ dshift c k c′ ∷ []) (dshift (path a b c) k (path a′ b′ c′))
+  by·dshift·path :
+      {a a′ b b′ c c′ : Quote} {k : ℕ} →
+      Follows R.dshift·path
+      (dshift a (suc k) a′
+      ∷ dshift b k b′
+      ∷ dshift c k c′
+      ∷ [])
+      (dshift (path a b c) k (path a′ b′ c′))
   by·dshift·plam : {b b′ : Quote} {k : ℕ} → Follows R.dshift·plam (dshift b (suc k) b′ ∷ []) (dshift (plam b) k (plam b′))
   by·dshift·papp : {p p′ : Quote} {k : ℕ} {r r′ : Interval} → Follows R.dshift·papp (dshift p k p′ ∷ ishift r k r′ ∷ []) (dshift (papp p r) k (papp p′ r′))
   -- dsubst: q for the dimension k
@@ -88,7 +117,15 @@ pub data Follows : ℕ → List Judgment → Judgment → Type 0 where
   by·dsubst·pi : {a a′ b b′ : Quote} {k : ℕ} {q : Interval} → Follows R.dsubst·pi (dsubst a k q a′ ∷ dsubst b k q b′ ∷ []) (dsubst (pi a b) k q (pi a′ b′))
   by·dsubst·lam : {b b′ : Quote} {k : ℕ} {q : Interval} → Follows R.dsubst·lam (dsubst b k q b′ ∷ []) (dsubst (lam b) k q (lam b′))
   by·dsubst·app : {f f′ a a′ : Quote} {k : ℕ} {q : Interval} → Follows R.dsubst·app (dsubst f k q f′ ∷ dsubst a k q a′ ∷ []) (dsubst (app f a) k q (app f′ a′))
-  by·dsubst·path : {q q′ : Interval} {a a′ b b′ c c′ : Quote} {k : ℕ} → Follows R.dsubst·path (ishift q 0 q′ ∷ dsubst a (suc k) q′ a′ ∷ dsubst b k q b′ ∷ dsubst c k q c′ ∷ []) (dsubst (path a b c) k q (path a′ b′ c′))
+  by·dsubst·path :
+      {q q′ : Interval} {a a′ b b′ c c′ : Quote} {k : ℕ} →
+      Follows R.dsubst·path
+      (ishift q 0 q′
+      ∷ dsubst a (suc k) q′ a′
+      ∷ dsubst b k q b′
+      ∷ dsubst c k q c′
+      ∷ [])
+      (dsubst (path a b c) k q (path a′ b′ c′))
   by·dsubst·plam : {q q′ : Interval} {b b′ : Quote} {k : ℕ} → Follows R.dsubst·plam (ishift q 0 q′ ∷ dsubst b (suc k) q′ b′ ∷ []) (dsubst (plam b) k q (plam b′))
   by·dsubst·papp : {p p′ : Quote} {k : ℕ} {q r r′ : Interval} → Follows R.dsubst·papp (dsubst p k q p′ ∷ isubst r k q r′ ∷ []) (dsubst (papp p r) k q (papp p′ r′))
   -- typing
@@ -96,18 +133,112 @@ pub data Follows : ℕ → List Judgment → Judgment → Type 0 where
   by·type·nat : {d : ℕ} {g : Quotes} → Follows R.type·nat (ctx d g ∷ []) (has d g nat (u 0))
   by·type·zero : {d : ℕ} {g : Quotes} → Follows R.type·zero (ctx d g ∷ []) (has d g zero nat)
   by·type·v : {d n : ℕ} {g : Quotes} {A : Quote} → Follows R.type·v (ctx d g ∷ lookup g n A ∷ []) (has d g (v n) A)
-  by·type·pi : {d i j k : ℕ} {g : Quotes} {A B : Quote} → Follows R.type·pi (has d g A (u i) ∷ has d (cons A g) B (u j) ∷ max i j k ∷ []) (has d g (pi A B) (u k))
-  by·type·lam : {d i j : ℕ} {g : Quotes} {A b B : Quote} → Follows R.type·lam (has d g A (u i) ∷ has d (cons A g) b B ∷ has d (cons A g) B (u j) ∷ []) (has d g (lam b) (pi A B))
-  by·type·app : {d : ℕ} {g : Quotes} {f A B a B′ : Quote} → Follows R.type·app (has d g f (pi A B) ∷ has d g a A ∷ subst B 0 a B′ ∷ []) (has d g (app f a) B′)
-  by·type·path : {d l : ℕ} {g g′ : Quotes} {A A0 A1 b c : Quote} → Follows R.type·path (ctx d g ∷ dshiftctx g 0 g′ ∷ has (suc d) g′ A (u l) ∷ dsubst A 0 I0 A0 ∷ dsubst A 0 I1 A1 ∷ has d g b A0 ∷ has d g c A1 ∷ []) (has d g (path A b c) (u l))
-  by·type·plam : {d l : ℕ} {g g′ : Quotes} {A t A0 A1 t0 t1 : Quote} → Follows R.type·plam (ctx d g ∷ dshiftctx g 0 g′ ∷ has (suc d) g′ A (u l) ∷ has (suc d) g′ t A ∷ dsubst A 0 I0 A0 ∷ dsubst A 0 I1 A1 ∷ dsubst t 0 I0 t0 ∷ dsubst t 0 I1 t1 ∷ has d g t0 A0 ∷ has d g t1 A1 ∷ []) (has d g (plam t) (path A t0 t1))
-  by·type·papp : {d l : ℕ} {g : Quotes} {p A b c B : Quote} {r : Interval} → Follows R.type·papp (has d g p (path A b c) ∷ interval d r ∷ dsubst A 0 r B ∷ has d g B (u l) ∷ []) (has d g (papp p r) B)
-  by·type·conv : {d l : ℕ} {g : Quotes} {t A B : Quote} → Follows R.type·conv (has d g t A ∷ eq d g A B (u l) ∷ has d g B (u l) ∷ []) (has d g t B)
+  by·type·pi :
+      {d i j k : ℕ} {g : Quotes} {A B : Quote} →
+      Follows R.type·pi
+      (has d g A (u i)
+      ∷ has d (cons A g) B (u j)
+      ∷ max i j k
+      ∷ [])
+      (has d g (pi A B) (u k))
+  by·type·lam :
+      {d i j : ℕ} {g : Quotes} {A b B : Quote} →
+      Follows R.type·lam
+      (has d g A (u i)
+      ∷ has d (cons A g) b B
+      ∷ has d (cons A g) B (u j)
+      ∷ [])
+      (has d g (lam b) (pi A B))
+  by·type·app :
+      {d : ℕ} {g : Quotes} {f A B a B′ : Quote} →
+      Follows R.type·app
+      (has d g f (pi A B)
+      ∷ has d g a A
+      ∷ subst B 0 a B′
+      ∷ [])
+      (has d g (app f a) B′)
+  by·type·path :
+      {d l : ℕ} {g g′ : Quotes} {A A0 A1 b c : Quote} →
+      Follows R.type·path
+      (ctx d g
+      ∷ dshiftctx g 0 g′
+      ∷ has (suc d) g′ A (u l)
+      ∷ dsubst A 0 I0 A0
+      ∷ dsubst A 0 I1 A1
+      ∷ has d g b A0
+      ∷ has d g c A1
+      ∷ [])
+      (has d g (path A b c) (u l))
+  by·type·plam :
+      {d l : ℕ} {g g′ : Quotes} {A t A0 A1 t0 t1 : Quote} →
+      Follows R.type·plam
+      (ctx d g
+      ∷ dshiftctx g 0 g′
+      ∷ has (suc d) g′ A (u l)
+      ∷ has (suc d) g′ t A
+      ∷ dsubst A 0 I0 A0
+      ∷ dsubst A 0 I1 A1
+      ∷ dsubst t 0 I0 t0
+      ∷ dsubst t 0 I1 t1
+      ∷ has d g t0 A0
+      ∷ has d g t1 A1
+      ∷ [])
+      (has d g (plam t) (path A t0 t1))
+  by·type·papp :
+      {d l : ℕ} {g : Quotes} {p A b c B : Quote} {r : Interval} →
+      Follows R.type·papp
+      (has d g p (path A b c)
+      ∷ interval d r
+      ∷ dsubst A 0 r B
+      ∷ has d g B (u l)
+      ∷ [])
+      (has d g (papp p r) B)
+  by·type·conv :
+      {d l : ℕ} {g : Quotes} {t A B : Quote} →
+      Follows R.type·conv
+      (has d g t A
+      ∷ eq d g A B (u l)
+      ∷ has d g B (u l)
+      ∷ [])
+      (has d g t B)
   -- equality
   by·eq·refl : {d : ℕ} {g : Quotes} {t A : Quote} → Follows R.eq·refl (has d g t A ∷ []) (eq d g t t A)
   by·eq·sym : {d : ℕ} {g : Quotes} {a b A : Quote} → Follows R.eq·sym (eq d g a b A ∷ []) (eq d g b a A)
   by·eq·trans : {d : ℕ} {g : Quotes} {a b A c : Quote} → Follows R.eq·trans (eq d g a b A ∷ eq d g b c A ∷ []) (eq d g a c A)
-  by·eq·beta : {d i j : ℕ} {g : Quotes} {A b B a b′ B′ : Quote} → Follows R.eq·beta (has d g A (u i) ∷ has d (cons A g) b B ∷ has d (cons A g) B (u j) ∷ has d g a A ∷ subst b 0 a b′ ∷ subst B 0 a B′ ∷ []) (eq d g (app (lam b) a) b′ B′)
-  by·eq·pbeta : {d : ℕ} {g : Quotes} {t A b c B t′ : Quote} {r : Interval} → Follows R.eq·pbeta (has d g (plam t) (path A b c) ∷ interval d r ∷ dsubst A 0 r B ∷ dsubst t 0 r t′ ∷ has d g t′ B ∷ []) (eq d g (papp (plam t) r) t′ B)
-  by·eq·p0 : {d : ℕ} {g : Quotes} {p A b c B : Quote} → Follows R.eq·p0 (has d g p (path A b c) ∷ dsubst A 0 I0 B ∷ has d g b B ∷ []) (eq d g (papp p I0) b B)
-  by·eq·p1 : {d : ℕ} {g : Quotes} {p A b c B : Quote} → Follows R.eq·p1 (has d g p (path A b c) ∷ dsubst A 0 I1 B ∷ has d g c B ∷ []) (eq d g (papp p I1) c B)
+  by·eq·beta :
+      {d i j : ℕ} {g : Quotes} {A b B a b′ B′ : Quote} →
+      Follows R.eq·beta
+      (has d g A (u i)
+      ∷ has d (cons A g) b B
+      ∷ has d (cons A g) B (u j)
+      ∷ has d g a A
+      ∷ subst b 0 a b′
+      ∷ subst B 0 a B′
+      ∷ [])
+      (eq d g (app (lam b) a) b′ B′)
+  by·eq·pbeta :
+      {d : ℕ} {g : Quotes} {t A b c B t′ : Quote} {r : Interval} →
+      Follows R.eq·pbeta
+      (has d g (plam t) (path A b c)
+      ∷ interval d r
+      ∷ dsubst A 0 r B
+      ∷ dsubst t 0 r t′
+      ∷ has d g t′ B
+      ∷ [])
+      (eq d g (papp (plam t) r) t′ B)
+  by·eq·p0 :
+      {d : ℕ} {g : Quotes} {p A b c B : Quote} →
+      Follows R.eq·p0
+      (has d g p (path A b c)
+      ∷ dsubst A 0 I0 B
+      ∷ has d g b B
+      ∷ [])
+      (eq d g (papp p I0) b B)
+  by·eq·p1 :
+      {d : ℕ} {g : Quotes} {p A b c B : Quote} →
+      Follows R.eq·p1
+      (has d g p (path A b c)
+      ∷ dsubst A 0 I1 B
+      ∷ has d g c B
+      ∷ [])
+      (eq d g (papp p I1) c B)
