@@ -5,6 +5,8 @@ UNFOLD = {
     'call': 'called-in headed',
     'step': 'turned-by',
     'play-run': 'run-by read-run',
+    'link-cell': 'linked cell-end',
+    'link-row': 'linked row-end',
     'emit': 'known-row known-or new-row add-row',
     'intern': 'known-or new-cell add-cell',
     'remember': 'remembered-or new-memory add-cell replace',
@@ -35,17 +37,22 @@ BEFORE = {'ended-got': 'law.ended-got-end', 'ended-two': 'law.ended-two-end'}
 
 FOUND = ['use Rattle.ast.specs.declared.cells.Found.the-variants.{Nothing}']
 
-def search_up(test, predicate):
-    "a loop that looks for the first number that passes; @thing@ is the path to a thing on the way"
+PATHS = 'use Rattle.ast.specs.Paths.{%s}'
+FALLS = 'falls _ _ _ _ (@loop-test@ .taken) (@%s@ .ensures)'
+
+def first_along(test, predicate, search, hashed):
+    "a loop along a path that looks for the first that passes; @thing@ is the path to a thing on the way"
+    step = '@loop@ .inv, first-step _ _ _ _ _ _ _ (@loop-test@ .taken), ← @%s@ .ensures, @if1@ ' % test
     return {
-        'Inv-loop': '(i ≤ n) × (first-of (%s) i ≡ Nothing)' % predicate,
+        'Inv-loop': 'first-on cell-slot half cells n (%s) 0 h₀ ≡ first-on cell-slot half cells n (%s) i h' % (predicate, predicate),
         'μ-loop': 'n - i',
-        'use': FOUND,
+        'use': [PATHS % 'first-step, first-end'],
         'over': {
-            'returns': 'sym (first-hit _ _ _ (@loop-test@ .taken) (@loop@ .inv .1) (sym (@%s@ .ensures) ∙ @if1@ .taken))' % test,
-            'loop-holds': '(omega arith, first-zero _)',
-            'loop-again': '(omega arith, first-miss _ _ (@loop@ .inv .1) (sym (@%s@ .ensures) ∙ @if1@ .left))' % test,
-            'returns-2': 'sym (first-none _ _ _ (@loop-test@ .left) (@loop@ .inv .0) (@loop@ .inv .1))',
+            'loop-holds': 'refl',
+            'returns': 'rw (%s _ _ _ _ _ _, ← @%s@ .ensures, %s.taken)' % (search, hashed, step),
+            'loop-less': FALLS % 'next-cell',
+            'loop-again': 'rw (%s.left, ← @next-cell@ .ensures, half-of)' % step,
+            'returns-2': 'rw (%s _ _ _ _ _ _, ← @%s@ .ensures, @loop@ .inv, first-end _ _ _ _ _ _ _ (@loop-test@ .left))' % (search, hashed),
         },
     }
 
@@ -56,15 +63,39 @@ HAND = {
     'word': {'use': ['use lib.ListN.{List·getD-eq-default}'], 'over': {'returns-2': 'sym (List·getD-eq-default (c .before .args .words .now) 0 (c .if1 .left))'}},
     'same-node': {'first': ['node-by-third _ _ _ _ _ _']},
     'same-row': {'first': ['row-by-third _ _ _ _ _ _ _ _']},
-    'find-node': search_up('same-node', 'same-node cells kind a b c'),
-    'find-look': search_up('same-look', 'same-look cells kind x y z'),
+    'find-node': first_along('same-node', 'same-node cells kind a b c', 'node-search', 'look-hash'),
+    'find-look': first_along('same-look', 'same-look cells kind x y z', 'look-search', 'hash'),
     'find-row': {
-        'Inv-loop': '(i ≤ n) × (last-of (same-row rows kind a b c d e) n ≡ last-of (same-row rows kind a b c d e) i)',
-        'μ-loop': 'i',
+        'Inv-loop': 'last-on row-slot quarter rows n (same-row rows kind a b c d e) 0 h₀ ≡ or-else (last-on row-slot quarter rows n (same-row rows kind a b c d e) i h) last',
+        'μ-loop': 'n - i',
+        'use': [PATHS.replace('·specs.specs', '.specs') % 'last-step, last-end', 'use Rattle.ast.specs.Cells.{or-else}'],
         'over': {
-            'returns': 'rw (@loop@ .inv .1, last-down _ _ (@loop-test@ .taken), ← @same-row@ .ensures, @if1@ .taken)',
-            'loop-again': '(omega arith, rw (@loop@ .inv .1, last-down _ _ (@loop-test@ .taken), ← @same-row@ .ensures, @if1@ .left))',
-            'returns-2': 'rw (@loop@ .inv .1, last-none _ _ (@loop-test@ .left))',
+            'loop-holds': 'or-none _',
+            'loop-less': FALLS % 'next-row',
+            'loop-again': 'rw (@loop@ .inv, last-step _ _ _ _ _ _ _ (@loop-test@ .taken), or-kept _ _ _ _, ← @same-row@ .ensures, ← @kept@ .ensures, ← @next-row@ .ensures, quarter-of)',
+            'returns': 'rw (row-search _ _ _ _ _ _ _ _, ← @row-hash@ .ensures, @loop@ .inv, last-end _ _ _ _ _ _ _ (@loop-test@ .left))',
+        },
+    },
+    'row-end': {
+        'Inv-loop': 'end-on row-slot quarter rows n 0 h₀ at₀ ≡ end-on row-slot quarter rows n i h at',
+        'μ-loop': 'n - i',
+        'use': [PATHS.replace('·specs.specs', '.specs') % 'place-step, place-end'],
+        'over': {
+            'loop-holds': 'refl',
+            'loop-less': FALLS % 'next-row',
+            'loop-again': 'rw (@loop@ .inv, place-step _ _ _ _ _ _ _ (@loop-test@ .taken), ← @next-row@ .ensures, ← @row-slot@ .ensures, quarter-of)',
+            'returns': 'rw (row-end-search _ _ _, @loop@ .inv, place-end _ _ _ _ _ _ _ (@loop-test@ .left))',
+        },
+    },
+    'cell-end': {
+        'Inv-loop': 'end-on cell-slot half cells n 0 h₀ at₀ ≡ end-on cell-slot half cells n i h at',
+        'μ-loop': 'n - i',
+        'use': [PATHS % 'place-step, place-end'],
+        'over': {
+            'loop-holds': 'refl',
+            'loop-less': FALLS % 'next-cell',
+            'loop-again': 'rw (@loop@ .inv, place-step _ _ _ _ _ _ _ (@loop-test@ .taken), ← @next-cell@ .ensures, ← @cell-slot@ .ensures, half-of)',
+            'returns': 'rw (end-search _ _ _, @loop@ .inv, place-end _ _ _ _ _ _ _ (@loop-test@ .left))',
         },
     },
     'put-cell': {'first': ['put-all _ _ _ _ _ _ _ _ _ _']},

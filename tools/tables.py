@@ -66,7 +66,7 @@ def listed(names):
     return '(' + ' ∷ '.join(names + ['[]']) + ')'
 
 
-def table(data, rows, sorts, prefix, relation, width, what, counted=False, grows=True):
+def table(data, rows, sorts, prefix, relation, width, what, counted=False):
     """A data type with a constructor a row, and the lemmas on it. relation: Cell or Low. counted: a word has the number of parts."""
     words = list('abcde'[:width])
     index = ['kind'] + (['count'] if counted else []) + words
@@ -102,8 +102,7 @@ def table(data, rows, sorts, prefix, relation, width, what, counted=False, grows
             out.append(f"{prefix}{lemma} {h} {k} = {lets + 'cc' if n else 'refl'}")
     i = ' '.join(index)
     parts = [f'pub data {data} (xs : List Thing) : ({i} : ℕ) → {what} → Type 0 where\n' + '\n'.join(constructors)]
-    if grows:
-        parts.append(f'pub {prefix}lift : {{xs ys : List Thing}} {{{i} : ℕ}} {{x : {what}}} → Extends xs ys → {data} xs {i} x → {data} ys {i} x\n' + '\n'.join(lifts))
+    parts.append(f'pub {prefix}lift : {{xs ys : List Thing}} {{{i} : ℕ}} {{x : {what}}} → Extends xs ys → {data} xs {i} x → {data} ys {i} x\n' + '\n'.join(lifts))
     both = ' '.join(index[:1] + (['count', 'count′'] if counted else []) + words)
     parts.append('-- words fix what they stand for, and are fixed by it\n'
                  f"pub {prefix}same : {{xs : List Thing}} {{{both} : ℕ}} {{x y : {what}}} → {data} xs {i} x → {data} xs {' '.join(other)} y → x ≡ y\n" + '\n'.join(sames))
@@ -133,7 +132,7 @@ def parts_known():
 print('\n\n'.join([
     HEAD.rstrip(),
     '-- the kind and the parts of a cell\n' + table('Shape', THINGS, OF_THINGS, 's-', 'Cell', 3, 'Thing'),
-    '-- the same of a quote, over the lowest cells with its parts\n' + table('Look', QUOTES, OF_QUOTES, 'l-', 'Low', 3, 'Shown', grows=False),
+    '-- the same of a quote, over the lowest cells with its parts\n' + table('Look', QUOTES, OF_QUOTES, 'l-', 'Low', 3, 'Shown'),
     plain('Shape', THINGS, 's-', 'Thing', 'Plain'),
     plain('Look', QUOTES, 'l-', 'Shown', 'Seen'),
     parts_known(),

@@ -4,6 +4,7 @@ use mathlib.Core.Path.{_≡_, refl}
 use mathlib.Core.List.{List, []}
 use native.Mathlib.Omega.{arith}
 use lib.ListN.{length, getD}
+use Rattle.ast.specs.Indexed.{index-none}
 use Rattle.producer.specs.Machine.{Machine, Result, is, not, W}
 use Rattle.producer.specs.Calls.{callees}
 use Rattle.walk.specs.Syntax.{Term, Context}
@@ -33,6 +34,8 @@ starts limit rows cells = record {
   counts = refl;
   cells-fit = omega arith;
   rows-fit = omega arith;
+  rows-index = index-none;
+  cells-index = index-none;
 }
 
 -- the words past the rows stay

@@ -6,6 +6,7 @@ pub mod Lists
 pub mod Things
 pub mod Tables
 pub mod Store
+pub mod Linking
 pub mod Holds
 -- a step over words against a step of the walk
 pub mod Match

@@ -10,13 +10,14 @@ use native.Mathlib.Omega.{arith}
 use lib.ListN.{length, getD, drop}
 use lib.Dec.{ltb}
 use Rattle.ast.specs.Words.{ifb, up}
-use Rattle.ast.specs.Cells.{first-of, last-of, on-found, same-node, look-1, look-2, look-3, same-look, lowest-of, recall-of}
+use Rattle.ast.specs.Cells.{on-found, same-node, look-1, look-2, look-3}
+use Rattle.ast.specs.Nodes.{find-node, find-look, lowest-of, recall-of}
 use Rattle.ast.specs.declared.cells.Cell.{Cell as Words}
 use Rattle.ast.specs.declared.cells.Found.{Found}
 use Rattle.ast.specs.declared.cells.Found.the-variants.{At, Nothing}
 use Rattle.ast.specs.declared.cells.Recalled.the-variants.{Known as Remembered, Unknown}
 use Rattle.producer.specs.declared.rows.Refs.{Refs}
-use Rattle.producer.specs.Machine.{Machine, machine, Result, is, not, W, next, give, stop, when_then_else_, open-cell, lowest, add-cell, new-cell, known-or, intern, no-refs, cons-refs, join-refs, refs-1, refs-2, refs-3, refs-4, refs-5, refs-6, refs-7, refs-10, row-block, same-row, add-row, new-row, known-row, emit, recalled-or, recall-or, replace, remembered-or, new-memory, remember, with-conversions, enter, deeper-of}
+use Rattle.producer.specs.Machine.{Machine, machine, Result, is, not, W, next, give, stop, when_then_else_, open-cell, lowest, add-cell, new-cell, known-or, intern, no-refs, cons-refs, join-refs, refs-1, refs-2, refs-3, refs-4, refs-5, refs-6, refs-7, refs-10, row-block, same-row, find-row, add-row, new-row, known-row, emit, recalled-or, recall-or, replace, remembered-or, new-memory, remember, with-conversions, enter, deeper-of}
 use Rattle.producer.specs.Machine as C
 use Rattle.producer.specs.Callees.{Callees, prepared}
 use Rattle.walk.specs.Syntax.{Interval, Term, Context}
@@ -27,7 +28,7 @@ use Rattle.link.specs.Lists.{yes?, first, Extends, same, more, extends-t
 use Rattle.link.specs.Things.{show, Cell, Low, is-thing, shows, cell-lift, Plain, Held, held, Known, none-left, known, known-append, known-head, held-lift}
 use Rattle.link.specs.Tables.{Shape, s-lift, s-plain, Spoken, j-lift}
 use Rattle.link.specs.Store.{refs-of, plain, line, Cells, cell-by, quote-is, node-test, looks, look-test, row-test, found-of, rows-found, among-found, among-none, comes, lowest-comes, interval-known, term-known, context-known, Kept, no-memory, a-memory-at, memory-test}
-use Rattle.link.specs.Holds.{Before, Holds, less, read-cell, more-cells, more-rows, converted, deeper, replaced-holds, added-holds}
+use Rattle.link.specs.Holds.{Before, Holds, less, read-cell, more-cells, more-rows, no-cell-children, no-row-children, found-node, found-look, found-row, converted, deeper, replaced-holds, added-holds}
 
 -- both end alike; nothing is said where a number would pass 65,535 (never met)
 pub data Agree {A B : Type 0} (o : Before) (xs : List Thing) (Q : B → A → List Thing → Type 0) : Result B → Outcome A → Type 0 where
@@ -130,10 +131,10 @@ count-new x s e = rw (among-none x (s .cells) e, count) (go (decLt (length (s .c
 
 -- the lowest cell with the quote of a node that comes
 module _ {o : Before} {xs : List Thing} {k a b c : ℕ} {x : Thing} (shape : Shape xs k a b c x) (w : Machine) (s : State) (e : Extends xs (s .cells)) (h : Holds o w s) where
-  looked : first-of (same-look (w .cells) k (look-1 (w .cells) k a) (look-2 (w .cells) k b) (look-3 (w .cells) k c)) (w .state .cells) ≡ first (shows (show x)) (s .cells)
+  looked : find-look (w .cells) (w .state .cells) k (look-1 (w .cells) k a) (look-2 (w .cells) k b) (look-3 (w .cells) k c) ≡ first (shows (show x)) (s .cells)
   looked =
       let rest = drop (length (s .cells) * 8) (o .cells) in
-      rw (h .counts, h .words .cells-end) (first-found (shows (show x)) _ (s .cells) (λ n y m. look-test rest (looks rest (h .words .cells-are) (s-lift e shape)) (h .words .cells-are) m))
+      rw (h .counts, found-look (h .cells-index) _ _ _ _, h .words .cells-end) (first-found (shows (show x)) _ (s .cells) (λ n y m. look-test rest (looks rest (h .words .cells-are) (s-lift e shape)) (h .words .cells-are) m))
 
   low : Low (lowest-of (w .cells) (w .state .cells) k a b c) (show x) (x ∷ s .cells)
   unfolding lowest-of
@@ -144,11 +145,11 @@ pub interning : {o : Before} {xs : List Thing} {k a b c : ℕ} {x : Thing} → S
 unfolding intern known-or give new-cell fresh with-cell
 interning {o} {xs} {k} {a} {b} {c} {x} shape = record { holds = λ w s e h. rw (searched w s e h) (go w s e h (first (is-thing x) (s .cells)) refl) }
   where
-    searched : (w : Machine) (s : State) → Extends xs (s .cells) → Holds o w s → first-of (same-node (w .cells) k a b c) (w .state .cells) ≡ first (is-thing x) (s .cells)
-    searched w s e h = rw (h .counts) (first-found (is-thing x) (same-node (w .cells) k a b c) (s .cells) (λ n y m. rw (h .words .cells-end) (node-test (drop (length (s .cells) * 8) (o .cells)) (s-lift e shape) (h .words .cells-are) m)))
+    searched : (w : Machine) (s : State) → Extends xs (s .cells) → Holds o w s → find-node (w .cells) (w .state .cells) k a b c ≡ first (is-thing x) (s .cells)
+    searched w s e h = rw (h .counts, found-node (h .cells-index) k a b c) (first-found (is-thing x) (same-node (w .cells) k a b c) (s .cells) (λ n y m. rw (h .words .cells-end) (node-test (drop (length (s .cells) * 8) (o .cells)) (s-lift e shape) (h .words .cells-are) m)))
 
     new : (w : Machine) (s : State) → Extends xs (s .cells) → Holds o w s → first (is-thing x) (s .cells) ≡ Nothing → (d : Dec (length (s .cells) < s .cell-room)) → (t : Bool) → t ≡ yes? d → Agree {A = Unit {0}} o xs (λ n _ ys. Cell n x ys) (ifb t (is (w .state .cells) (add-cell (k ∷ a ∷ b ∷ c ∷ lowest-of (w .cells) (w .state .cells) k a b c ∷ 0 ∷ 0 ∷ 0 ∷ []) w)) (not 20 w)) (fresh x s d)
-    new w s e h f (yes l) true g = both-done {b = w .state .cells} {s = with-cell x s} (more e) (more-cells (s-plain shape .1) h (plain (s-lift e shape) (low shape w s e h)) refl l) (rw (h .counts) (comes x (s .cells) f))
+    new w s e h f (yes l) true g = both-done {b = w .state .cells} {s = with-cell x s} (more e) (more-cells (s-plain shape .1) h (plain (s-lift e shape) (low shape w s e h)) refl (no-cell-children k a b c _ 0) l) (rw (h .counts) (comes x (s .cells) f))
     new w s e h f (yes l) false g = let z : _≡_ {A = ℕ} 0 1 = cc in absurd (omega arith)
     new w s e h f (no l) true g = let z : _≡_ {A = ℕ} 0 1 = cc in absurd (omega arith)
     new w s e h f (no l) false g = both-refused e h
@@ -246,8 +247,8 @@ abbrev pub Same : ℕ → ℕ → List Thing → Type 0
 Same x y xs = x ≡ y
 
 module _ {o : Before} {xs : List Thing} {k n a b c d e : ℕ} {j : Judgment} (spoken : Spoken xs k n a b c d e j) where
-  rows-searched : (w : Machine) (s : State) → Extends xs (s .cells) → Holds o w s → last-of (same-row (w .rows) k a b c d e) (w .state .rows) ≡ found-of (row-of j (s .rows))
-  rows-searched w s i h = rw (h .counts) (rows-found j (same-row (w .rows) k a b c d e) (s .rows) (λ n y m. rw (h .words .rows-end) (row-test (drop (length (s .rows) * 24) (o .rows)) (j-lift i spoken) (h .words .rows-are) m)))
+  rows-searched : (w : Machine) (s : State) → Extends xs (s .cells) → Holds o w s → find-row (w .rows) (w .state .rows) k a b c d e ≡ found-of (row-of j (s .rows))
+  rows-searched w s i h = rw (h .counts, found-row (h .rows-index) k a b c d e) (rows-found j (same-row (w .rows) k a b c d e) (s .rows) (λ n y m. rw (h .words .rows-end) (row-test (drop (length (s .rows) * 24) (o .rows)) (j-lift i spoken) (h .words .rows-are) m)))
 
   known-agrees : (m : W ℕ) (g : M ℕ) (w : Machine) (s : State) → Extends xs (s .cells) → Holds o w s → Agree o xs Same (m w) (g s) → Agree o xs Same (known-row k a b c d e m w) ((from row-of j (s .rows) get pure or g) s)
   unfolding known-row known-or from_get_or_ give pure
@@ -267,7 +268,7 @@ module _ {o : Before} {xs : List Thing} {k n a b c d e : ℕ} {j : Judgment} (sp
   emitting {refs = refs} rule q = rw (q .are) (record { holds = λ w s i h. known-agrees (new-row (row-block rule (refs-of refs) k n a b c d e)) (if decLt (length (s .rows)) (s .row-room) then push (record { rule = rule; refs = refs; judgment = j }) else refuse 18) w s i h (new w s i h (decLt (length (s .rows)) (s .row-room)) (ltb (w .state .rows) (w .state .rowroom)) (rw (h .counts) (less (length (s .rows)) (s .row-room)))) })
     where
       new : (w : Machine) (s : State) → Extends xs (s .cells) → Holds o w s → (f : Dec (length (s .rows) < s .row-room)) (t : Bool) → t ≡ yes? f → Agree o xs Same (ifb t (is (w .state .rows) (add-row (row-block rule (refs-of refs) k n a b c d e) w)) (not 18 w)) ((if f then push (record { rule = rule; refs = refs; judgment = j }) else refuse 18) s)
-      new w s i h (yes l) true g = both-done {a = length (s .rows)} {b = w .state .rows} {s = with-row (record { rule = rule; refs = refs; judgment = j }) s} i (more-rows h (line (j-lift i spoken)) refl l) (rw (h .counts))
+      new w s i h (yes l) true g = both-done {a = length (s .rows)} {b = w .state .rows} {s = with-row (record { rule = rule; refs = refs; judgment = j }) s} i (more-rows h (line (j-lift i spoken)) refl (no-row-children rule (refs-of refs) k n a b c d e) l) (rw (h .counts))
       new w s i h (yes l) false g = let z : _≡_ {A = ℕ} 0 1 = cc in absurd (omega arith)
       new w s i h (no l) true g = let z : _≡_ {A = ℕ} 0 1 = cc in absurd (omega arith)
       new w s i h (no l) false g = both-refused i h
@@ -289,8 +290,8 @@ entering left p k = record { holds = λ w s e h. passing p k .holds (machine (w 
 -- memory
 
 module _ {o : Before} {xs : List Thing} {g t : ℕ} {G : Context} {t′ : Term} (d : ℕ) (hg : Cell g (context G) xs) (ht : Cell t (term t′) xs) where
-  memory-searched : (w : Machine) (s : State) → Extends xs (s .cells) → Holds o w s → first-of (same-node (w .cells) 40 d g t) (w .state .cells) ≡ first (is-thing (inference (key d G t′))) (s .cells)
-  memory-searched w s e h = rw (h .counts) (first-found (is-thing (inference (key d G t′))) (same-node (w .cells) 40 d g t) (s .cells) (λ n y m. rw (h .words .cells-end) (memory-test (drop (length (s .cells) * 8) (o .cells)) d (cell-lift e hg) (cell-lift e ht) (h .words .cells-are) m)))
+  memory-searched : (w : Machine) (s : State) → Extends xs (s .cells) → Holds o w s → find-node (w .cells) (w .state .cells) 40 d g t ≡ first (is-thing (inference (key d G t′))) (s .cells)
+  memory-searched w s e h = rw (h .counts, found-node (h .cells-index) 40 d g t) (first-found (is-thing (inference (key d G t′))) (same-node (w .cells) 40 d g t) (s .cells) (λ n y m. rw (h .words .cells-end) (memory-test (drop (length (s .cells) * 8) (o .cells)) d (cell-lift e hg) (cell-lift e ht) (h .words .cells-are) m)))
 
   pub recalling : {m : W (ℕ × ℕ)} {e : M (Term × ℕ)} → Matches o xs m e (Returns term) → Matches o xs (recall-or d g t m) (looking λ s. from recall (key d G t′) (s .memory) get pure or e) (Returns term)
   unfolding recall-or recall-of recalled-or looking from_get_or_ pure give

@@ -75,7 +75,7 @@ asked n c-equal d g ts l i k f h = leaves _ _ _ _ (λ c a ys q. record { same-ro
 -- deepest starts from 0
 afresh-holds : {o : Before} {w : Machine} {s : State} → Holds o w s → Holds o (afresh w) (with-deepest 0 s)
 unfolding afresh with-deepest
-afresh-holds h = record { words = h .words; counts = rw (h .counts); cells-fit = h .cells-fit; rows-fit = h .rows-fit }
+afresh-holds h = record { words = h .words; counts = rw (h .counts); cells-fit = h .cells-fit; rows-fit = h .rows-fit; rows-index = h .rows-index; cells-index = h .cells-index }
 
 turned-leaves : {o : Before} {w : Machine} {s : State} (n : ℕ) → Fit s → Holds o w s → Leaves o (s .cells) (turned n, w) (R.refusal n 0, s)
 turned-leaves n f h = record { extends = same; holds = h; fit = f; says = record { number = refl; row = refl; deepest = refl; result = no-word } }

@@ -1,40 +1,45 @@
 -- What the words of the store and of the table stand for, and how they are searched. Assumes nothing.
-use Prim.Native.Nat.{ℕ, _+_, _*_, _<_}
+use Prim.Native.Nat.{ℕ, zero, suc, _+_, _*_, _%_, _<_}
 use mathlib.Core.Path.{_≡_, refl, sym, ap, _∙_, subst}
 use mathlib.Core.List.{List, [], _∷_, _++_, append-assoc}
 use mathlib.Core.Option.{Option, none, some}
 use mathlib.Core.Bool.{Bool, true, false}
 use native.Mathlib.Omega.{arith}
 use native.Mathlib.Nat.{add-zero}
-use lib.ListN.{length, getD, length-append}
+use lib.ListN.{length, getD, set, length-append}
 use lib.Seq.{sets}
 use lib.Dec.{eqb, T, eqb→eq, eqb-refl, lit<}
 use Rattle.ast.specs.Words.{ifb, all-eq}
 use Rattle.ast.specs.Cells.{or-else, on-found, last-of, cell-of, quote-of, pairs, look-1, look-2, look-3, same-node, same-look}
+use Rattle.ast.specs.Nodes.{look-hash}
 use Rattle.ast.specs.declared.cells.Cell.{Cell as Words}
 use Rattle.ast.specs.declared.cells.Found.{Found}
 use Rattle.ast.specs.declared.cells.Found.the-variants.{At, Nothing}
 use Rattle.producer.specs.declared.rows.Refs.{Refs}
-use Rattle.producer.specs.Machine.{row-block, same-row}
+use Rattle.producer.specs.Machine.{same-row}
 use Rattle.walk.specs.Syntax.{Interval, I0, I1, Dim, Neg, Meet, Join, Term, Universe, Var, Nat, Zero, Pi, Lam, App, Path, PathLam, PathApp, Context, Nil, Cons}
 use Rattle.walk.specs.Judgment.{Judgment, judgment?}
 use Rattle.walk.specs.State.{Row, Thing, term, interval, context, inference, Key, key, Memory, thing?, row-of, among, recall, of-interval, of-term, of-context}
 use Rattle.link.specs.Lists.{yes?, first, Nth, here, there, nth-below, Extends, same, more, extends-trans, Blocks, no-block, block, blocks-length, Read, read, written}
 use Rattle.link.specs.Things.{Shown, a-memory, shown?, show, Cell, Low, is-thing, shows, cell-lift, low-lift, cell-nth, cell-same, cell-number, Plain, Seen, Held, Known, none-left, known, known-append, known-head, known-tail}
-use Rattle.link.specs.Tables.{Shape, s-universe, s-var, s-nat, s-zero, s-pi, s-lam, s-app, s-path, s-plam, s-papp, s-i0, s-i1, s-dim, s-neg, s-meet, s-join, s-nil, s-cons, s-lift, s-same, s-words, s-plain, Look, l-universe, l-var, l-nat, l-zero, l-pi, l-lam, l-app, l-path, l-plam, l-papp, l-i0, l-i1, l-dim, l-neg, l-meet, l-join, l-nil, l-cons, l-same, l-words, l-plain, Spoken, j-lift, j-same, j-words, parts, shape-known}
+use Rattle.link.specs.Tables.{Shape, s-universe, s-var, s-nat, s-zero, s-pi, s-lam, s-app, s-path, s-plam, s-papp, s-i0, s-i1, s-dim, s-neg, s-meet, s-join, s-nil, s-cons, s-lift, s-same, s-words, s-plain, Look, l-universe, l-var, l-nat, l-zero, l-pi, l-lam, l-app, l-path, l-plam, l-papp, l-i0, l-i1, l-dim, l-neg, l-meet, l-join, l-nil, l-cons, l-lift, l-same, l-words, l-plain, Spoken, j-lift, j-same, j-words, parts, shape-known}
 
 -- the cited rows as a row has them: how many, and ten places
 abbrev pub refs-of : List ℕ → Refs
 refs-of l = record { count = length l; r0 = getD l 0 0; r1 = getD l 1 0; r2 = getD l 2 0; r3 = getD l 3 0; r4 = getD l 4 0; r5 = getD l 5 0; r6 = getD l 6 0; r7 = getD l 7 0; r8 = getD l 8 0; r9 = getD l 9 0 }
 
--- the words of a cell, over the cells below
+-- the words of a cell, over the cells below; its children in the index are any words
 pub data Block (xs : List Thing) : Thing → List ℕ → Type 0 where
-  plain : {k a b c q : ℕ} {t : Thing} → Shape xs k a b c t → Low q (show t) (t ∷ xs) → Block xs t (k ∷ a ∷ b ∷ c ∷ q ∷ 0 ∷ 0 ∷ 0 ∷ [])
-  remembered : {d g t w row : ℕ} {g′ : Context} {t′ : Term} → Cell g (context g′) xs → Cell t (term t′) xs → Block xs (inference (key d g′ t′)) (40 ∷ d ∷ g ∷ t ∷ w ∷ row ∷ 0 ∷ 0 ∷ [])
+  plain : {k a b c q m n : ℕ} {t : Thing} → Shape xs k a b c t → Low q (show t) (t ∷ xs) → Block xs t (k ∷ a ∷ b ∷ c ∷ q ∷ 0 ∷ m ∷ n ∷ [])
+  remembered : {d g t w row m n : ℕ} {g′ : Context} {t′ : Term} → Cell g (context g′) xs → Cell t (term t′) xs → Block xs (inference (key d g′ t′)) (40 ∷ d ∷ g ∷ t ∷ w ∷ row ∷ m ∷ n ∷ [])
+
+-- a row with its children in the index
+abbrev pub row-words : ℕ → Refs → (kind count a b c d e m n o p : ℕ) → List ℕ
+row-words rule l kind count a b c d e m n o p = rule ∷ l .count ∷ l .r0 ∷ l .r1 ∷ l .r2 ∷ l .r3 ∷ l .r4 ∷ l .r5 ∷ l .r6 ∷ l .r7 ∷ l .r8 ∷ l .r9 ∷ count ∷ a ∷ b ∷ c ∷ d ∷ e ∷ 0 ∷ kind ∷ m ∷ n ∷ o ∷ p ∷ []
 
 -- the words of a row
 pub data Line (xs : List Thing) (rs : List Row) : Row → List ℕ → Type 0 where
-  line : {kind count a b c d e : ℕ} {r : Row} → Spoken xs kind count a b c d e (r .judgment) → Line xs rs r (row-block (r .rule) (refs-of (r .refs)) kind count a b c d e)
+  line : {kind count a b c d e m n o p : ℕ} {r : Row} → Spoken xs kind count a b c d e (r .judgment) → Line xs rs r (row-words (r .rule) (refs-of (r .refs)) kind count a b c d e m n o p)
 
 abbrev pub Cells : List Thing → List ℕ → Type 0
 Cells = Blocks 8 Block
@@ -47,6 +52,33 @@ pub lines-lift : {xs ys : List Thing} {rs : List Row} {ws : List ℕ} → Extend
 lines-lift e no-block = no-block
 lines-lift e (block (line s) z h) = block (line (j-lift e s)) z (lines-lift e h)
 
+-- a child that is set
+abbrev pub row-place : ℕ → ℕ
+row-place h = 20 + h % 4
+
+pub line-set : {xs : List Thing} (h v : ℕ) (rs : List Row) (r : Row) (bs : List ℕ) → Line xs rs r bs → Line xs rs r (set bs (row-place h) v)
+line-set {xs} h v rs r bs l = go (h % 4) (omega arith) l
+  where
+    go : {bs : List ℕ} (j : ℕ) → j < 4 → Line xs rs r bs → Line xs rs r (set bs (20 + j) v)
+    go zero i (line s) = line s
+    go (suc zero) i (line s) = line s
+    go (suc (suc zero)) i (line s) = line s
+    go (suc (suc (suc zero))) i (line s) = line s
+    go (suc (suc (suc (suc j)))) i (line s) = absurd (let z : ⊥ = omega arith in z)
+
+abbrev pub cell-place : ℕ → ℕ
+cell-place h = 6 + h % 2
+
+pub block-set : (h v : ℕ) (xs : List Thing) (x : Thing) (bs : List ℕ) → Block xs x bs → Block xs x (set bs (cell-place h) v)
+block-set h v xs x bs b = go (h % 2) (omega arith) b
+  where
+    go : {x : Thing} {bs : List ℕ} (j : ℕ) → j < 2 → Block xs x bs → Block xs x (set bs (6 + j) v)
+    go zero i (plain s q) = plain s q
+    go zero i (remembered g t) = remembered g t
+    go (suc zero) i (plain s q) = plain s q
+    go (suc zero) i (remembered g t) = remembered g t
+    go (suc (suc j)) i b = absurd (let z : ⊥ = omega arith in z)
+
 -- four words against four
 pub record Four (a b c d a′ b′ c′ d′ : ℕ) : Type 0 where
   pub one : a ≡ a′
@@ -54,7 +86,7 @@ pub record Four (a b c d a′ b′ c′ d′ : ℕ) : Type 0 where
   pub three : c ≡ c′
   pub four : d ≡ d′
 
-eqb-true : (m n : ℕ) → eqb m n ≡ true → m ≡ n
+pub eqb-true : (m n : ℕ) → eqb m n ≡ true → m ≡ n
 eqb-true m n e = eqb→eq m n (rw e tt)
 
 pub eqb-self : (n : ℕ) → eqb n n ≡ true
@@ -64,7 +96,7 @@ eqb-self n = go (eqb n n) (eqb-refl n)
     go true t = refl
     go false t = absurd t
 
-ifb-true : (a b : Bool) → ifb a b false ≡ true → (a ≡ true) × (b ≡ true)
+pub ifb-true : (a b : Bool) → ifb a b false ≡ true → (a ≡ true) × (b ≡ true)
 ifb-true true b e = (refl, e)
 ifb-true false b e = let z : _≡_ {A = ℕ} 0 1 = cc in absurd (omega arith)
 
@@ -119,7 +151,7 @@ opens {n} {x} {xs} {ws} rest p h cs = go p (read rest h cs)
     go p r = at p (r .is) (r .at) (r .under)
       where
         at : {y : Thing} {ys : List Thing} {bs : List ℕ} → Plain y → Block ys y bs → ((k : ℕ) → k < 8 → getD (ws ++ rest) (n * 8 + k) 0 ≡ getD bs k 0) → Extends (y ∷ ys) xs → Opens n y xs (ws ++ rest)
-        at p (plain {k = k} {a = a} {b = b} {c = c} {q = q} s w) f e = record { kind = k; a = a; b = b; c = c; low = q; words = cell-read n (ws ++ rest) (k ∷ a ∷ b ∷ c ∷ q ∷ 0 ∷ 0 ∷ 0 ∷ []) f; shape = s-lift (drop-one e) s; lowest = low-lift e w }
+        at p (plain {k = k} {a = a} {b = b} {c = c} {q = q} {m = m} {n = l} s w) f e = record { kind = k; a = a; b = b; c = c; low = q; words = cell-read n (ws ++ rest) (k ∷ a ∷ b ∷ c ∷ q ∷ 0 ∷ m ∷ l ∷ []) f; shape = s-lift (drop-one e) s; lowest = low-lift e w }
         at p (remembered g t) f e = absurd p
 
 no-40 : (k d g t a b c : ℕ) → eqb 40 k ≡ false → all-eq 40 d g t k a b c ≡ false
@@ -216,6 +248,30 @@ look-test {k} {a} {b} {c} {n} {s} {y} {xs} {ws} rest l cs h = let r = read rest 
     at : {y : Thing} {ys : List Thing} {bs : List ℕ} → Block ys y bs → Extends ys xs → all-eq (getD bs 0 0) (look-1 (ws ++ rest) (getD bs 0 0) (getD bs 1 0)) (look-2 (ws ++ rest) (getD bs 0 0) (getD bs 2 0)) (look-3 (ws ++ rest) (getD bs 0 0) (getD bs 3 0)) k a b c ≡ shows s y
     at {y} (plain s′ w) e = look-same y l (looks rest cs (s-lift e s′))
     at (remembered hg ht) e = memory-look _ _ _ l
+
+-- a remembered inference shows its key
+look-40 : (C : List ℕ) (d : ℕ) → look-1 C 40 d ≡ d
+unfolding look-1 look-2 pairs
+look-40 C d = refl
+
+look-41 : (C : List ℕ) (g : ℕ) → look-2 C 40 g ≡ g
+unfolding look-2 pairs
+look-41 C g = refl
+
+look-42 : (C : List ℕ) (t : ℕ) → look-3 C 40 t ≡ t
+unfolding look-3
+look-42 C t = refl
+
+-- a cell's hash stays as the store grows
+pub hash-stays : {xs ys zs : List Thing} {x : Thing} {ws vs bs : List ℕ} (rest rest′ : List ℕ) → Cells xs ws → Cells ys vs → Extends xs ys → Extends zs xs → Block zs x bs → look-hash (vs ++ rest′) (getD bs 0 0) (getD bs 1 0) (getD bs 2 0) (getD bs 3 0) ≡ look-hash (ws ++ rest) (getD bs 0 0) (getD bs 1 0) (getD bs 2 0) (getD bs 3 0)
+unfolding look-hash
+hash-stays {ws = ws} {vs = vs} rest rest′ cs ds e f (plain {k = k} {a = a} {b = b} {c = c} s w) =
+    let p = l-words (looks rest′ ds (s-lift (extends-trans f e) s)) (l-lift e (looks rest cs (s-lift f s))) in
+    let e₁ : look-1 (vs ++ rest′) k a ≡ look-1 (ws ++ rest) k a = cc in
+    let e₂ : look-2 (vs ++ rest′) k b ≡ look-2 (ws ++ rest) k b = cc in
+    let e₃ : look-3 (vs ++ rest′) k c ≡ look-3 (ws ++ rest) k c = cc in
+    rw (e₁, e₂, e₃)
+hash-stays {ws = ws} {vs = vs} rest rest′ cs ds e f (remembered {d = d} {g = g} {t = t} hg ht) = rw (look-40 (vs ++ rest′) d, look-40 (ws ++ rest) d, look-41 (vs ++ rest′) g, look-41 (ws ++ rest) g, look-42 (vs ++ rest′) t, look-42 (ws ++ rest) t)
 
 -- the test of a row tells whether it has the judgment
 spoken-test : {xs : List Thing} {k m a b c d e k′ m′ a′ b′ c′ d′ e′ : ℕ} {i j : Judgment} → Spoken xs k m a b c d e j → Spoken xs k′ m′ a′ b′ c′ d′ e′ i → ifb (all-eq k′ a′ b′ c′ k a b c) (ifb (eqb d′ d) (eqb e′ e) false) false ≡ yes? (judgment? j i)
@@ -421,12 +477,12 @@ replaced {n} rest type row (here e) (block {xs = xs} {ws = ws} {bs = bs} b z h) 
   where
     at : {k : Key} {bs : List ℕ} → Block xs (inference k) bs → Replaced (inference k ∷ xs) (ws ++ bs) (length xs) type row rest
     at (plain s w) = absurd (s-plain s .1)
-    at (remembered {d = d} {g = g} {t = t} {w = w} {row = r} hg ht) = record {
-      used = ws ++ (40 ∷ d ∷ g ∷ t ∷ type ∷ row ∷ 0 ∷ 0 ∷ []);
+    at (remembered {d = d} {g = g} {t = t} {w = w} {row = r} {m = m} {n = n} hg ht) = record {
+      used = ws ++ (40 ∷ d ∷ g ∷ t ∷ type ∷ row ∷ m ∷ n ∷ []);
       are = block (remembered hg ht) refl h;
       words =
-          ap (λ (l : List ℕ). sets l (length xs * 8 + 4) (type ∷ row ∷ [])) (append-assoc ws (40 ∷ d ∷ g ∷ t ∷ w ∷ r ∷ 0 ∷ 0 ∷ []) rest ∙ sym (append-assoc ws (40 ∷ d ∷ g ∷ t ∷ []) (w ∷ r ∷ 0 ∷ 0 ∷ rest)))
-          ∙ written (ws ++ (40 ∷ d ∷ g ∷ t ∷ [])) (type ∷ row ∷ []) (w ∷ r ∷ 0 ∷ 0 ∷ rest) (length xs * 8 + 4) (rw (length-append, blocks-length h)) (omega arith)
+          ap (λ (l : List ℕ). sets l (length xs * 8 + 4) (type ∷ row ∷ [])) (append-assoc ws (40 ∷ d ∷ g ∷ t ∷ w ∷ r ∷ m ∷ n ∷ []) rest ∙ sym (append-assoc ws (40 ∷ d ∷ g ∷ t ∷ []) (w ∷ r ∷ m ∷ n ∷ rest)))
+          ∙ written (ws ++ (40 ∷ d ∷ g ∷ t ∷ [])) (type ∷ row ∷ []) (w ∷ r ∷ m ∷ n ∷ rest) (length xs * 8 + 4) (rw (length-append, blocks-length h)) (omega arith)
           ∙ rw (append-assoc, append-assoc, append-assoc);
     }
 replaced rest type row (there k) (block {xs = xs} {ws = ws} {bs = bs} b z h) =

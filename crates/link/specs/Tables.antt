@@ -114,6 +114,26 @@ pub data Look (xs : List Thing) : (kind a b c : ℕ) → Shown → Type 0 where
   l-nil : Look xs 32 0 0 0 (a-context nil)
   l-cons : {a : ℕ} {a′ : Quote} {b : ℕ} {b′ : Quotes} → Low a (a-quote a′) xs → Low b (a-context b′) xs → Look xs 33 a b 0 (a-context (cons a′ b′))
 
+pub l-lift : {xs ys : List Thing} {kind a b c : ℕ} {x : Shown} → Extends xs ys → Look xs kind a b c x → Look ys kind a b c x
+l-lift e l-universe = l-universe
+l-lift e l-var = l-var
+l-lift e l-nat = l-nat
+l-lift e l-zero = l-zero
+l-lift e (l-pi h0 h1) = l-pi (low-lift e h0) (low-lift e h1)
+l-lift e (l-lam h0) = l-lam (low-lift e h0)
+l-lift e (l-app h0 h1) = l-app (low-lift e h0) (low-lift e h1)
+l-lift e (l-path h0 h1 h2) = l-path (low-lift e h0) (low-lift e h1) (low-lift e h2)
+l-lift e (l-plam h0) = l-plam (low-lift e h0)
+l-lift e (l-papp h0 h1) = l-papp (low-lift e h0) (low-lift e h1)
+l-lift e l-i0 = l-i0
+l-lift e l-i1 = l-i1
+l-lift e l-dim = l-dim
+l-lift e (l-neg h0) = l-neg (low-lift e h0)
+l-lift e (l-meet h0 h1) = l-meet (low-lift e h0) (low-lift e h1)
+l-lift e (l-join h0 h1) = l-join (low-lift e h0) (low-lift e h1)
+l-lift e l-nil = l-nil
+l-lift e (l-cons h0 h1) = l-cons (low-lift e h0) (low-lift e h1)
+
 -- words fix what they stand for, and are fixed by it
 pub l-same : {xs : List Thing} {kind a b c : ℕ} {x y : Shown} → Look xs kind a b c x → Look xs kind a b c y → x ≡ y
 l-same l-universe l-universe = refl

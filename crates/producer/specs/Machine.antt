@@ -1,6 +1,7 @@
 -- The machine over words, and its steps: what a method of `State` is proved equal to. A term is the number of its cell.
--- A row: 24 words as document 01 has them; its first working word is free, the second is the judgment's kind. Assumes nothing.
-use Prim.Native.Nat.{ℕ, _+_, _*_, _-_}
+-- A row: 24 words as document 01 has them; its first working word is free, the second is the judgment's kind, the last four are the
+-- index's. Assumes nothing.
+use Prim.Native.Nat.{ℕ, _+_, _*_, _-_, _%_, _/_}
 use mathlib.Core.Bool.{Bool, true, false}
 use mathlib.Core.List.{List, [], _∷_}
 use mathlib.Core.Option.{Option, none, some}
@@ -8,7 +9,9 @@ use lib.ListN.{getD}
 use lib.Seq.{sets}
 use lib.Dec.{ltb, eqb}
 use Rattle.ast.specs.Words.{ifb, up, greater-of, all-eq}
-use Rattle.ast.specs.Cells.{first-of, last-of, cell-of, quote-of, same-quote-of, shape-of, same-node, lowest-of, recall-of}
+use Rattle.ast.specs.Cells.{cell-of, quote-of, same-quote-of, shape-of}
+use Rattle.ast.specs.Index.{last-on, end-on, linked, mixed, hash-4}
+use Rattle.ast.specs.Nodes.{find-node, lowest-of, link-cell, recall-of}
 use Rattle.ast.specs.declared.cells.Cell.{Cell}
 use Rattle.ast.specs.declared.cells.Shape.{Shape}
 use Rattle.ast.specs.declared.cells.Shape.the-variants.{Universe, Pi, Lam, Path, Plam, Other}
@@ -214,8 +217,9 @@ at-plam i f z = λ w. on-plam (shape-of (w .cells) i) f z w
 abbrev pub one-more-cell : State → State
 one-more-cell s = record { rows = s .rows; cells = s .cells + 1; conversions = s .conversions; deepest = s .deepest; limit = s .limit; rowroom = s .rowroom; cellroom = s .cellroom }
 
+-- the cell that comes is linked, then stored
 unfoldable pub add-cell : List ℕ → Machine → Machine
-add-cell ws w = machine (w .rows) (sets (w .cells) (w .state .cells * 8) ws) (one-more-cell (w .state))
+add-cell ws w = machine (w .rows) (sets (link-cell (w .cells) (w .state .cells) (getD ws 0 0) (getD ws 1 0) (getD ws 2 0) (getD ws 3 0)) (w .state .cells * 8) ws) (one-more-cell (w .state))
 
 unfoldable pub new-cell : (k a b c : ℕ) → W ℕ
 new-cell k a b c = λ w.
@@ -230,7 +234,7 @@ known-or Nothing m = m
 
 -- the cell with a kind and parts
 unfoldable pub intern : (k a b c : ℕ) → W ℕ
-intern k a b c = λ w. known-or (first-of (same-node (w .cells) k a b c) (w .state .cells)) (new-cell k a b c) w
+intern k a b c = λ w. known-or (find-node (w .cells) (w .state .cells) k a b c) (new-cell k a b c) w
 
 abbrev pub make-universe : ℕ → W ℕ
 make-universe n = intern 1 n 0 0
@@ -335,15 +339,36 @@ same-row R kind a b c d e i = ifb (all-eq (row-word i 19 R) (row-word i 13 R) (r
 abbrev pub one-more-row : State → State
 one-more-row s = record { rows = s .rows + 1; cells = s .cells; conversions = s .conversions; deepest = s .deepest; limit = s .limit; rowroom = s .rowroom; cellroom = s .cellroom }
 
+-- the index of the rows: four children of a row stand in its last words, and it lies on the path of its judgment's hash
+unfoldable pub row-slot : (i h : ℕ) → ℕ
+row-slot i h = i * 24 + 20 + h % 4
+
+unfoldable pub quarter : ℕ → ℕ
+quarter h = h / 4
+
+unfoldable pub row-hash : (kind a b c d e : ℕ) → ℕ
+row-hash kind a b c d e = mixed (mixed (hash-4 kind a b c) d) e
+
+-- the last row with the kind and the arguments
+unfoldable pub find-row : List ℕ → (n kind a b c d e : ℕ) → Found
+find-row R n kind a b c d e = last-on row-slot quarter R n (same-row R kind a b c d e) 0 (row-hash kind a b c d e)
+
+unfoldable pub row-end : List ℕ → (n h : ℕ) → ℕ
+row-end R n h = end-on row-slot quarter R n 0 h 0
+
+unfoldable pub link-row : List ℕ → (n kind a b c d e : ℕ) → List ℕ
+link-row R n kind a b c d e = linked row-slot quarter R n (row-hash kind a b c d e)
+
+-- the row that comes is linked, then stored
 unfoldable pub add-row : List ℕ → Machine → Machine
-add-row ws w = machine (sets (w .rows) (w .state .rows * 24) ws) (w .cells) (one-more-row (w .state))
+add-row ws w = machine (sets (link-row (w .rows) (w .state .rows) (getD ws 19 0) (getD ws 13 0) (getD ws 14 0) (getD ws 15 0) (getD ws 16 0) (getD ws 17 0)) (w .state .rows * 24) ws) (w .cells) (one-more-row (w .state))
 
 unfoldable pub new-row : List ℕ → W ℕ
 new-row ws = λ w. ifb (ltb (w .state .rows) (w .state .rowroom)) (is (w .state .rows) (add-row ws w)) (not 18 w)
 
 -- a known judgment answers its row: the last with it
 unfoldable pub known-row : (kind a b c d e : ℕ) → W ℕ → W ℕ
-known-row kind a b c d e m = λ w. known-or (last-of (same-row (w .rows) kind a b c d e) (w .state .rows)) m w
+known-row kind a b c d e m = λ w. known-or (find-row (w .rows) (w .state .rows) kind a b c d e) m w
 
 unfoldable pub emit : ℕ → Refs → (kind count a b c d e : ℕ) → W ℕ
 emit rule l kind count a b c d e = known-row kind a b c d e (new-row (row-block rule l kind count a b c d e))
@@ -375,7 +400,7 @@ unfoldable pub new-memory : List ℕ → W (Unit {0})
 new-memory ws = λ w. ifb (ltb (w .state .cells) (w .state .cellroom)) (is tt (add-cell ws w)) (not 20 w)
 
 unfoldable pub remember : (d g t type row : ℕ) → W (Unit {0})
-remember d g t type row = λ w. remembered-or (first-of (same-node (w .cells) 40 d g t) (w .state .cells)) type row (new-memory (40 ∷ d ∷ g ∷ t ∷ type ∷ row ∷ 0 ∷ 0 ∷ [])) w
+remember d g t type row = λ w. remembered-or (find-node (w .cells) (w .state .cells) 40 d g t) type row (new-memory (40 ∷ d ∷ g ∷ t ∷ type ∷ row ∷ 0 ∷ 0 ∷ [])) w
 
 -- conversions
 

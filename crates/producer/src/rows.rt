@@ -1,16 +1,20 @@
 // Rows: 24 words each. Rule, cited rows (count, ten places), arguments (count, five places), six working words:
-// 18 stays 0, 19 is the judgment's kind. Nothing but `find_row` knows how a known judgment is found.
+// 18 stays 0, 19 is the judgment's kind, 20 to 23 are the index's. Nothing but `find_row` and `link_row` knows how a known judgment is found.
 ghost use mathlib.Core.Path.{_≡_};
 ghost use mathlib.Core.List.{[], _∷_};
 ghost use Prim.Native.Nat.{_+_, _*_};
 ghost use lib.Seq.{sets};
-ghost use Rattle.ast.specs.Cells.{last-of};
-ghost use Rattle.producer.specs.Machine.{machine, end, no-refs, cons-refs, join-refs, refs-1, refs-2, refs-3, refs-4, refs-5, refs-6, refs-7, refs-10, row-block, same-row, emit, emit-has, emit-eq};
+ghost use Rattle.ast.specs.Index.{onward};
+ghost use Rattle.producer.specs.Machine.{machine, end, row-slot, quarter, row-hash, find-row, row-end, link-row, no-refs, cons-refs, join-refs, refs-1, refs-2, refs-3, refs-4, refs-5, refs-6, refs-7, refs-10, row-block, same-row, emit, emit-has, emit-eq};
 use crate::codes;
 use crate::state::Got;
 use crate::state::State;
 use ast::cells::Found;
 use ast::cells::quote;
+use ast::index::hash;
+use ast::index::kept;
+use ast::index::later;
+use ast::index::mix;
 use ast::words::put;
 use ast::words::succ;
 use ast::words::word;
@@ -269,18 +273,71 @@ pub fn same_row(rows: &[u32], i: u32, kind: u32, a: u32, b: u32, c: u32, d: u32,
     false
 }
 
+// The hash of a judgment.
+pub fn row_hash(kind: u32, a: u32, b: u32, c: u32, d: u32, e: u32) -> u32
+    ensures { λ r. ⌜ r ≡ row-hash kind a b c d e ⌝ }
+{
+    let h0 = hash(kind, a, b, c);
+    let h1 = mix(h0, d);
+    mix(h1, e)
+}
+
+// Where the number of the row after `i` on a path stands.
+pub fn row_slot(i: u32, h: u32) -> usize
+    ensures { λ r. ⌜ r ≡ row-slot i h ⌝ }
+{
+    (i as usize) * 24 + 20 + ((h % 4) as usize)
+}
+
+// The row after `i` on a path: `n` where there is none.
+pub fn next_row(rows: &[u32], n: u32, i: u32, h: u32) -> u32
+    ensures { λ r. ⌜ r ≡ onward row-slot quarter (now (rows .entry)) n i h ⌝ }
+{
+    let at = row_slot(i, h);
+    let j = word(rows, at);
+    later(n, i, j)
+}
+
 // The last row below `n` that has the judgment's kind and arguments.
 pub fn find_row(rows: &[u32], n: u32, kind: u32, a: u32, b: u32, c: u32, d: u32, e: u32) -> Found
-    ensures { λ r. ⌜ r ≡ last-of (same-row (now (rows .entry)) kind a b c d e) n ⌝ }
+    ensures { λ r. ⌜ r ≡ find-row (now (rows .entry)) n kind a b c d e ⌝ }
 {
-    let mut i = n;
-    while 0 < i {
-        i -= 1;
-        if same_row(rows, i, kind, a, b, c, d, e) {
-            return Found::At(i);
-        }
+    let mut h = row_hash(kind, a, b, c, d, e);
+    let mut i = 0u32;
+    let mut last = Found::Nothing;
+    while i < n {
+        let same = same_row(rows, i, kind, a, b, c, d, e);
+        last = kept(same, i, last);
+        i = next_row(rows, n, i, h);
+        h = h / 4;
     }
-    Found::Nothing
+    last
+}
+
+// Where the number of a row that comes has to stand.
+pub fn row_end(rows: &[u32], n: u32, hash: u32) -> usize
+    ensures { λ r. ⌜ r ≡ row-end (now (rows .entry)) n hash ⌝ }
+{
+    let mut h = hash;
+    let mut i = 0u32;
+    let mut at = 0usize;
+    while i < n {
+        at = row_slot(i, h);
+        i = next_row(rows, n, i, h);
+        h = h / 4;
+    }
+    at
+}
+
+// The row `n` with the judgment comes at the end of its path.
+pub fn link_row(rows: &mut [u32], n: u32, kind: u32, a: u32, b: u32, c: u32, d: u32, e: u32)
+    ensures { λ _. ⌜ now (rows .exit) ≡ link-row (now (rows .entry)) n kind a b c d e ⌝ }
+{
+    if 0 < n {
+        let h = row_hash(kind, a, b, c, d, e);
+        let at = row_end(rows, n, h);
+        put(rows, at, n);
+    }
 }
 
 // Stores eight words of row `n`: a third of it.
@@ -379,6 +436,7 @@ impl State {
             Found::At(i) => Got::Is(self, i),
             Found::Nothing => {
                 if n < self.rowroom {
+                    link_row(rows, n, kind, a, b, c, d, e);
                     put_row(rows, n, rule, refs, kind, count, a, b, c, d, e);
                     self.rows = n + 1;
                     return Got::Is(self, n);

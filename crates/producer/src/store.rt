@@ -9,6 +9,7 @@ use crate::state::Got;
 use crate::state::State;
 use ast::cells::Found;
 use ast::cells::find_node;
+use ast::cells::link_cell;
 use ast::cells::lowest;
 use ast::cells::put_again;
 use ast::cells::put_cell;
@@ -33,6 +34,7 @@ impl State {
             Found::Nothing => {
                 if n < self.cellroom {
                     let quote = lowest(cells, n, kind, a, b, c);
+                    link_cell(cells, n, kind, a, b, c);
                     put_cell(cells, n, kind, a, b, c, quote, 0, 0, 0);
                     self.cells = n + 1;
                     return Got::Is(self, n);
@@ -63,6 +65,7 @@ impl State {
             }
             Found::Nothing => {
                 if n < self.cellroom {
+                    link_cell(cells, n, kinds::INFERENCE, d, g, t);
                     put_cell(cells, n, kinds::INFERENCE, d, g, t, ty, row, 0, 0);
                     self.cells = n + 1;
                     return Done::Ready(self);

@@ -8,6 +8,7 @@ use crate::quote;
 use oracle::sexp::Sexp;
 use oracle::{rules, Node, Ran, Value};
 use std::collections::HashMap;
+use std::ops::Range;
 
 pub const NO_ROW: u32 = u32::MAX;
 const ROW: usize = 24;
@@ -27,6 +28,8 @@ fn want(holds: bool, say: impl FnOnce() -> String) -> Result<(), Difference> {
 
 pub fn compare(left: &Left, ran: &Ran) -> Result<(), Difference> {
     counts(left, ran)?;
+    tree(left.rows, ran.rows.len(), ROW, 20..24)?;
+    tree(left.cells, ran.cells as usize, CELL, 6..8)?;
     let nodes = cells(left, ran)?;
     for i in 0..ran.answers.len() {
         answer(left, ran, &nodes, i)?;
@@ -66,9 +69,27 @@ pub fn nodes_of(cells: &[u32], count: u32) -> Vec<Node> {
     words.map(|w| [w[0], w[1], w[2], w[3]]).collect()
 }
 
+/// The index's words are a tree: each entry but the first is a child of one lower
+/// entry, and a word that names none is 0.
+fn tree(words: &[u32], count: usize, size: usize, children: Range<usize>) -> Result<(), Difference> {
+    let mut parents = vec![0; count];
+    for i in 0..count {
+        for at in children.clone() {
+            let child = words[i * size + at] as usize;
+            let fits = child == 0 || (i < child && child < parents.len());
+            want(fits, || format!("entry {i} of {size} words: child {child}"))?;
+            if child > 0 {
+                parents[child] += 1;
+            }
+        }
+    }
+    let one = parents.iter().skip(1).all(|n| *n == 1);
+    want(one, || format!("entries of {size} words: not one parent each"))
+}
+
 /// The cells are the oracle's, whatever their numbers: each different node once,
 /// parts below the whole; the word for the quote is the lowest cell with it; an
-/// inference remembers the same type and row; spare words are 0.
+/// inference remembers the same type and row; a node's spare word is 0.
 fn cells(left: &Left, ran: &Ran) -> Result<Vec<Node>, Difference> {
     let nodes = nodes_of(left.cells, ran.cells);
     for (i, node) in nodes.iter().enumerate() {
@@ -89,7 +110,6 @@ fn cells(left: &Left, ran: &Ran) -> Result<Vec<Node>, Difference> {
         }
         if node[0] == quote::INFERENCE {
             quotes.push(u32::MAX);
-            want(words[6..] == [0, 0], || format!("cell {i}: spare words {:?}", &words[6..]))?;
             continue;
         }
         let first = *lowest.entry(look).or_insert(i as u32);
@@ -97,7 +117,7 @@ fn cells(left: &Left, ran: &Ran) -> Result<Vec<Node>, Difference> {
         want(words[4] == first, || {
             format!("cell {i}: the lowest with its quote is {}, wanted {first}", words[4])
         })?;
-        want(words[5..] == [0, 0, 0], || format!("cell {i}: spare words {:?}", &words[5..]))?;
+        want(words[5] == 0, || format!("cell {i}: spare word {}", words[5]))?;
     }
     remembered(left, ran, &nodes, &map)?;
     Ok(nodes)

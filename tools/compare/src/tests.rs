@@ -26,8 +26,8 @@ fn the_worked_example_word_by_word() {
     assert_eq!(rows[24..42], row(79, 1, 4, [0, 0, 1, 2, 0]));
     assert_eq!(rows[48..], [7; 25]);
     let known = [
-        [32, 0, 0, 0, 0, 0, 0, 0],
-        [4, 0, 0, 0, 1, 0, 0, 0],
+        [32, 0, 0, 0, 0, 0, 3, 1],
+        [4, 0, 0, 0, 1, 0, 2, 0],
         [3, 0, 0, 0, 2, 0, 0, 0],
         [40, 0, 0, 1, 2, 1, 0, 0],
         [7; 8],
@@ -69,7 +69,7 @@ fn ran(case: &Case) -> Ran {
     oracle::play(&case.bytes, Slices { rows, cells, answers }, &Options::default()).unwrap()
 }
 
-/// A word made wrong shows, unless it is a working word of a row.
+/// A word made wrong shows, unless it is one of a row's first two working words.
 fn each_word_shows(case: &Case) -> usize {
     let (words, ran) = (Words::of(case), ran(case));
     assert!(words.same(&ran));
@@ -83,7 +83,7 @@ fn each_word_shows(case: &Case) -> usize {
     for (slice, used) in used.into_iter().enumerate() {
         // All that were used, and the one after them.
         for i in 0..words.slices[slice].len().min(used + 1) {
-            if slice == 0 && i < used && i % 24 >= 18 {
+            if slice == 0 && i < used && (18..20).contains(&(i % 24)) {
                 continue;
             }
             for by in [1, 1_000_000] {
@@ -123,9 +123,9 @@ fn numbers_of_cells_are_open() {
     let (mut words, ran) = (Words::of(&case), ran(&case));
     // zero and nat change places: 1 and 2.
     let cells = &mut words.slices[1];
-    cells[8..32].copy_from_slice(
-        &[[3, 0, 0, 0, 1, 0, 0, 0], [4, 0, 0, 0, 2, 0, 0, 0], [40, 0, 0, 2, 1, 1, 0, 0]].concat(),
-    );
+    for (i, node) in [[3, 0, 0, 0, 1, 0], [4, 0, 0, 0, 2, 0], [40, 0, 0, 2, 1, 1]].iter().enumerate() {
+        cells[8 + i * 8..14 + i * 8].copy_from_slice(node);
+    }
     assert!(!words.same(&ran), "the row still has the old numbers");
     words.slices[0][24 + 15..24 + 17].copy_from_slice(&[2, 1]);
     assert!(words.same(&ran));

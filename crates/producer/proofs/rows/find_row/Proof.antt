@@ -1,40 +1,45 @@
 -- Made by tools/prove.py: to make it again, run `python3 tools/prove.py producer`.
-use Prim.Native.Nat.{_≤_}
-use Rattle.ast.proofs.Laws.{last-down, last-none}
-use Rattle.ast.specs.Cells.{last-of}
-use Rattle.producer.specs.Machine.{same-row}
+use Prim.Native.Nat.{_-_}
+use Rattle.ast.proofs.Laws.{falls}
+use Rattle.ast.specs.Index.{last-on}
+use Rattle.producer.proofs.Laws.{quarter-of, row-search, or-none, or-kept}
+use Rattle.producer.specs.Machine.{same-row, row-slot, quarter}
 use borrow.Author.Needs.{needs}
 use mathlib.Core.Path.{_≡_}
-use native.Mathlib.Omega.{arith}
+use Rattle.ast.specs.Paths.{last-step, last-end}
+use Rattle.ast.specs.Cells.{or-else}
 use Rattle.producer.proofs.rows.find_row.Statement.{statement}
 use Rattle.producer.proofs.rows.find_row.Tie as tie
 
 abbrev Inv-loop : tie.InvT-loop
-Inv-loop rows n kind a b c d e i₀ i = (i ≤ n) × (last-of (same-row rows kind a b c d e) n ≡ last-of (same-row rows kind a b c d e) i)
+Inv-loop rows n kind a b c d e h₀ i₀ last₀ h i last = last-on row-slot quarter rows n (same-row rows kind a b c d e) 0 h₀ ≡ or-else (last-on row-slot quarter rows n (same-row rows kind a b c d e) i h) last
 
 abbrev μ-loop : tie.MeasureT-loop
-μ-loop rows n kind a b c d e i₀ i = i
+μ-loop rows n kind a b c d e h₀ i₀ last₀ h i last = n - i
+
+row-hash-requires : tie.Need-row-hash-requires Inv-loop μ-loop
+row-hash-requires c κs = search needs
 
 loop-holds : tie.Need-loop-holds Inv-loop μ-loop
-loop-holds c = search needs
-
-sub-i : tie.Need-sub-i Inv-loop μ-loop
-sub-i c = search needs
+loop-holds c = or-none _
 
 same-row-requires : tie.Need-same-row-requires Inv-loop μ-loop
 same-row-requires c κs = search needs
 
-returns : tie.Need-returns Inv-loop μ-loop
-returns c = rw (c .before .before .before .loop .inv .1, last-down _ _ (c .before .before .loop-test .taken), ← c .before .same-row .ensures, c .if1 .taken)
+kept-requires : tie.Need-kept-requires Inv-loop μ-loop
+kept-requires c κs = search needs
+
+next-row-requires : tie.Need-next-row-requires Inv-loop μ-loop
+next-row-requires c κs = search needs
 
 loop-less : tie.Need-loop-less Inv-loop μ-loop
-loop-less c = omega arith
+loop-less c = falls _ _ _ _ (c .before .before .before .loop-test .taken) (c .next-row .ensures)
 
 loop-again : tie.Need-loop-again Inv-loop μ-loop
-loop-again c = (omega arith, rw (c .before .before .before .loop .inv .1, last-down _ _ (c .before .before .loop-test .taken), ← c .before .same-row .ensures, c .if1 .left))
+loop-again c = rw (c .before .before .before .before .loop .inv, last-step _ _ _ _ _ _ _ (c .before .before .before .loop-test .taken), or-kept _ _ _ _, ← c .before .before .same-row .ensures, ← c .before .kept .ensures, ← c .next-row .ensures, quarter-of)
 
-returns-2 : tie.Need-returns-2 Inv-loop μ-loop
-returns-2 c = rw (c .before .loop .inv .1, last-none _ _ (c .loop-test .left))
+returns : tie.Need-returns Inv-loop μ-loop
+returns c = rw (row-search _ _ _ _ _ _ _ _, ← c .before .before .row-hash .ensures, c .before .loop .inv, last-end _ _ _ _ _ _ _ (c .loop-test .left))
 
 pub find-row-spec : {M : Type 1} → statement M
 find-row-spec =
@@ -42,10 +47,11 @@ find-row-spec =
     (tie.spec
     Inv-loop
     μ-loop
+    row-hash-requires
     loop-holds
-    sub-i
     same-row-requires
-    returns
+    kept-requires
+    next-row-requires
     loop-less
     loop-again
-    returns-2)
+    returns)

@@ -3,6 +3,7 @@ use Rattle.producer.proofs.Steps.{steps}
 use Rattle.producer.specs.Machine.{known-or, add-row, new-row, known-row, emit}
 use borrow.Author.Needs.{needs}
 use borrow.Author.Tests.{le-ltb, lt-ltb}
+use native.Mathlib.Omega.{arith}
 use Rattle.producer.proofs.state.State.emit.Statement.{statement}
 use Rattle.producer.proofs.state.State.emit.Tie as tie
 
@@ -15,6 +16,9 @@ enum-known-i c = search needs
 enum-told : tie.Need-enum-told
 enum-told c = search needs
 
+link-row-requires : tie.Need-link-row-requires
+link-row-requires c κs = search needs
+
 put-row-requires : tie.Need-put-row-requires
 put-row-requires c κs = search needs
 
@@ -22,11 +26,11 @@ add-self : tie.Need-add-self
 add-self c = search needs
 
 same-length : tie.Need-same-length
-same-length c = search needs
+same-length c = omega (arith, c .before .before .before .before .before .before .link-row .kept, c .before .before .put-row .kept)
 
 returns : tie.Need-returns
 unfolding emit steps known-row known-or new-row add-row
-returns c = rw (← c .before .before .before .before .before .before .before .before .find-row .ensures, c .before .before .before .before .before .before .enum-told .given .1, lt-ltb _ _ (c .before .before .before .before .if1 .taken), ← c .before .before .put-row .ensures)
+returns c = rw (← c .before .before .before .before .before .before .before .before .before .before .before .before .find-row .ensures, c .before .before .before .before .before .before .before .before .before .before .enum-told .given .1, lt-ltb _ _ (c .before .before .before .before .before .before .before .before .if1 .taken), ← c .before .before .before .before .before .before .link-row .ensures, ← c .before .before .put-row .ensures)
 
 same-length-2 : tie.Need-same-length-2
 same-length-2 c = search needs
@@ -49,6 +53,7 @@ emit-spec =
     find-row-requires
     enum-known-i
     enum-told
+    link-row-requires
     put-row-requires
     add-self
     same-length

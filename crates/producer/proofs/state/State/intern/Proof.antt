@@ -18,6 +18,9 @@ enum-told c = search needs
 lowest-requires : tie.Need-lowest-requires
 lowest-requires c κs = search needs
 
+link-cell-requires : tie.Need-link-cell-requires
+link-cell-requires c κs = search needs
+
 put-cell-requires : tie.Need-put-cell-requires
 put-cell-requires c κs = search needs
 
@@ -29,7 +32,7 @@ same-length c = search needs
 
 returns : tie.Need-returns
 unfolding intern steps known-or new-cell add-cell
-returns c = rw (← c .before .before .before .before .before .before .before .before .before .before .find-node .ensures, c .before .before .before .before .before .before .before .before .enum-told .given .1, lt-ltb _ _ (c .before .before .before .before .before .before .if1 .taken), ← c .before .before .before .before .lowest .ensures, ← c .before .before .put-cell .ensures)
+returns c = rw (← c .before .before .before .before .before .before .before .before .before .before .before .before .before .before .find-node .ensures, c .before .before .before .before .before .before .before .before .before .before .before .before .enum-told .given .1, lt-ltb _ _ (c .before .before .before .before .before .before .before .before .before .before .if1 .taken), ← c .before .before .before .before .before .before .before .before .lowest .ensures, ← c .before .before .before .before .before .before .link-cell .ensures, ← c .before .before .put-cell .ensures)
 
 same-length-2 : tie.Need-same-length-2
 same-length-2 c = search needs
@@ -53,6 +56,7 @@ intern-spec =
     enum-known-i
     enum-told
     lowest-requires
+    link-cell-requires
     put-cell-requires
     add-self
     same-length

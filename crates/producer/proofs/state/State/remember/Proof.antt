@@ -18,6 +18,9 @@ put-again-requires c κs = search needs
 enum-told : tie.Need-enum-told
 enum-told c = search needs
 
+link-cell-requires : tie.Need-link-cell-requires
+link-cell-requires c κs = search needs
+
 put-cell-requires : tie.Need-put-cell-requires
 put-cell-requires c κs = search needs
 
@@ -29,7 +32,7 @@ same-length c = search needs
 
 returns : tie.Need-returns
 unfolding remember steps remembered-or new-memory add-cell replace
-returns c = rw (← c .before .before .before .before .before .before .before .before .find-node .ensures, c .before .before .before .before .before .before .enum-told .given .1, lt-ltb _ _ (c .before .before .before .before .if1 .taken), ← c .before .before .put-cell .ensures)
+returns c = rw (← c .before .before .before .before .before .before .before .before .before .before .before .before .find-node .ensures, c .before .before .before .before .before .before .before .before .before .before .enum-told .given .1, lt-ltb _ _ (c .before .before .before .before .before .before .before .before .if1 .taken), ← c .before .before .before .before .before .before .link-cell .ensures, ← c .before .before .put-cell .ensures)
 
 same-length-2 : tie.Need-same-length-2
 same-length-2 c = search needs
@@ -53,6 +56,7 @@ remember-spec =
     enum-known-i
     put-again-requires
     enum-told
+    link-cell-requires
     put-cell-requires
     add-self
     same-length
