@@ -18,6 +18,14 @@ pub const KINDS: &[(&str, &str, u64)] = &[
     ("intervals", "long intervals", 20),
     ("doubling", "doubling substitutions", 20),
     ("converted", "converted arguments", 20),
+    ("pis", "a table filled by pi types", 1),
+    ("long", "a table filled by long intervals", 1),
+    ("deeps", "65,536 bytes of deep calls", 1),
+    ("functions", "a table filled by towers of functions", 1),
+    ("dimensions", "a table filled by towers of paths", 1),
+    ("annotations", "10,013 lams that differ in their annotation alone", 1),
+    ("meeting", "paths whose hashes meet", 1),
+    ("parted", "as many paths whose hashes do not", 1),
 ];
 
 extern "C" {
@@ -36,7 +44,7 @@ fn now() -> Duration {
 fn once(side: &str, case: &Case, times: u64) -> u128 {
     let [rows, cells, answers] = case.slices;
     if side == "program" {
-        let mut words = [rows, cells, answers].map(|n| vec![0; n as usize]);
+        let mut words = case.slices.map(|n| vec![0; n as usize]);
         let [rows, cells, answers] = &mut words;
         let start = now();
         for _ in 0..times {
@@ -81,6 +89,31 @@ fn sizes(kind: &str) -> Result<String> {
         let met = sides.tally;
         Ok(format!("{}, {}, {}, {}", met.calls, met.rows, met.cells, met.deepest))
     })
+}
+
+/// How time grows with the table: the program on ever larger parts of a run's
+/// calls, each the least of some plays, in milliseconds.
+pub fn growth(kind: &str, repeats: usize) -> Result<()> {
+    println!("{kind}: rows, cells, milliseconds, microseconds a row");
+    for share in [64, 32, 16, 8, 4, 2, 1] {
+        let case = generator::bench(&format!("{kind}/{share}"));
+        let case = case.ok_or_else(|| Error::other(kind.to_owned()))?;
+        let (result, times) = oracle::on_large_stack(|| {
+            let (mut result, mut times) = ([0; 5], Vec::new());
+            for _ in 0..repeats {
+                let mut words = case.slices.map(|n| vec![0; n as usize]);
+                let [rows, cells, answers] = &mut words;
+                let start = now();
+                program::play(&case.bytes, rows, cells, answers, &mut result);
+                times.push((now() - start).as_nanos() as f64);
+            }
+            (result, times)
+        });
+        let [least, ..] = spread(times);
+        let [_, _, _, rows, cells] = result;
+        println!("{rows} | {cells} | {least:.2} | {:.2}", least * 1e3 / f64::from(rows));
+    }
+    Ok(())
 }
 
 pub fn table(kinds: &[&str], repeats: usize) -> Result<()> {

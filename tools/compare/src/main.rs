@@ -26,6 +26,7 @@ compare short LENGTH              every run of so many codes and kinds after the
 compare batch                     those of standard input, as the generator writes them
 compare vectors SEED FOLDER       writes stored runs, and what replay says of them
 compare bench [KIND..] [--times N]  times of both sides, N processes each (5)
+compare growth KIND [--times N]   times of the program on the first 1/64, 1/32, .. of a large run
 compare play SIDE KIND TIMES      one process of these: program, source or counted
     --full        every run in 50,000 rows, at the highest nesting limit
     --work STEPS  gives a run up where the oracle takes more (10,000,000)
@@ -37,7 +38,10 @@ fn main() -> ExitCode {
     let parts: Vec<&str> = words.iter().map(String::as_str).collect();
     match parts[..] {
         ["vectors", seed, folder] => return write_vectors(seed, folder),
-        ["bench", ref kinds @ ..] => return benchmark(kinds),
+        ["bench", ref kinds @ ..] => return timed(kinds, bench::table),
+        ["growth", ref kind @ ..] => {
+            return timed(kind, |kinds, times| kinds.iter().try_for_each(|k| bench::growth(k, times)))
+        }
         ["play", side, kind, times] => return one_side(side, kind, times),
         _ => {}
     }
@@ -82,12 +86,12 @@ fn write_vectors(seed: &str, folder: &str) -> ExitCode {
     }
 }
 
-fn benchmark(words: &[&str]) -> ExitCode {
+fn timed(words: &[&str], measure: impl Fn(&[&str], usize) -> io::Result<()>) -> ExitCode {
     let (kinds, repeats) = match words {
         [kinds @ .., "--times", n] => (kinds, n.parse().unwrap_or(5)),
         kinds => (kinds, 5),
     };
-    match bench::table(kinds, repeats) {
+    match measure(kinds, repeats) {
         Ok(()) => ExitCode::SUCCESS,
         Err(e) => {
             eprintln!("compare: {e}");

@@ -1,10 +1,12 @@
 //! Runs to take times of: one for each kind of work.
-use crate::calls::{Call, Case, FULL};
+use crate::calls::{Call, Case, FULL, LONGEST};
+use crate::large::{self, put_in};
+use crate::meeting;
 use crate::random::Random;
 use crate::seeds::filled;
 use crate::shapes::{conversions, deep, hidden};
 use crate::term::{app, lam, papp, pi, plam, Interval, Term};
-use Interval::{Dim, I0};
+use Interval::I0;
 use Term::{Nat, Zero, V};
 
 pub fn case(kind: &str) -> Option<Case> {
@@ -15,7 +17,7 @@ pub fn case(kind: &str) -> Option<Case> {
         "intervals" => intervals(),
         "doubling" => doublings(),
         "converted" => converted(),
-        _ => return None,
+        _ => return large::case(kind).or_else(|| meeting::case(kind)),
     };
     Some(Case::new(FULL, 4096, &calls))
 }
@@ -38,7 +40,7 @@ fn small() -> Case {
         let mut bytes = Vec::new();
         call.write(&mut bytes);
         length += bytes.len();
-        if length > 65_536 {
+        if length > LONGEST {
             break;
         }
         calls.push(call);
@@ -46,25 +48,9 @@ fn small() -> Case {
     Case::new(FULL, 4096, &calls)
 }
 
-/// An interval of 2 ^ depth leaves, its parts mostly different.
-fn interval(random: &mut Random, depth: usize) -> Interval {
-    if depth == 0 {
-        return Dim(random.below(3));
-    }
-    let (r, s) = (interval(random, depth - 1), interval(random, depth - 1));
-    if random.chance(1, 2) {
-        Interval::Meet(Box::new(r), Box::new(s))
-    } else {
-        Interval::Join(Box::new(r), Box::new(s))
-    }
-}
-
 /// A long interval put for a dimension that stands in a long interval.
 fn intervals() -> Vec<Call> {
-    let random = &mut Random::new(1, 0);
-    let inner = papp(plam(Nat, Zero), interval(random, 10));
-    let outer = papp(plam(Nat, inner), interval(random, 10));
-    vec![Call::new(4, 2, &[], &[outer, Nat])]
+    vec![Call::new(4, 2, &[], &[put_in(&mut Random::new(1, 0), (10, 3), (10, 3)), Nat])]
 }
 
 /// A number that each of `left` root reductions makes twice as wide, below so

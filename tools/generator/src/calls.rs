@@ -33,6 +33,9 @@ pub const LISTING: [u32; 3] = [682 * 24, 2048 * 8, 4096 * 4];
 /// As many rows as there may be, and cells enough.
 pub const FULL: [u32; 3] = [50_000 * 24, 200_000 * 8, 16_384 * 4];
 
+/// How many bytes a run may have.
+pub const LONGEST: usize = 65_536;
+
 impl Case {
     pub fn new(slices: [u32; 3], limit: u16, calls: &[Call]) -> Self {
         let mut bytes = limit.to_le_bytes().to_vec();

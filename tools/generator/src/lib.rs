@@ -4,6 +4,8 @@ mod bench;
 mod calls;
 mod damage;
 mod edges;
+mod large;
+mod meeting;
 mod random;
 mod runs;
 mod seeds;
