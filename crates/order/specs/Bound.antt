@@ -24,7 +24,7 @@ use Rattle.walk.specs.Refusal as Refusal
 use Rattle.walk.specs.Walk.{none-left, entered, callees-by, one-more, callees}
 use Rattle.order.specs.Numbers.{largest, interval-top, term-top, context-top, quote-top, quotes-top, judgment-top, key-top, thing-top, memory-top, At-most, at-most-nil, at-most-cons, State-bounded}
 use Rattle.order.specs.Guarded.{beyond, bump, guarded}
-use Rattle.walk.specs.Sound.Parts.{level-is, pi-is, lam-is, path-is}
+use Rattle.walk.specs.Sound.Parts.{level-is, pi-is, lam-is, path-is, plam-is}
 use Rattle.walk.specs.Demand.{At, here, there}
 use Rattle.walk.specs.Sound.Logic.{found as row-found}
 
@@ -453,16 +453,7 @@ path-top : (t : Term) (m : Term × Term × Term) → path-parts t ≡ some m →
 path-top t m e = rw (path-is t m e) (omega arith)
 
 plam-top : (t m : Term) → plam-body t ≡ some m → term-top m ≤ term-top t
-plam-top (PathLam a b) m e = let q : b ≡ m = cc in rw (← q) (omega arith)
-plam-top (Universe l) m e = let z : _≡_ {A = ℕ} 0 1 = cc in absurd (omega arith)
-plam-top (Var n) m e = let z : _≡_ {A = ℕ} 0 1 = cc in absurd (omega arith)
-plam-top Nat m e = let z : _≡_ {A = ℕ} 0 1 = cc in absurd (omega arith)
-plam-top Zero m e = let z : _≡_ {A = ℕ} 0 1 = cc in absurd (omega arith)
-plam-top (Pi a b) m e = let z : _≡_ {A = ℕ} 0 1 = cc in absurd (omega arith)
-plam-top (Lam a b) m e = let z : _≡_ {A = ℕ} 0 1 = cc in absurd (omega arith)
-plam-top (App a b) m e = let z : _≡_ {A = ℕ} 0 1 = cc in absurd (omega arith)
-plam-top (Path a b c) m e = let z : _≡_ {A = ℕ} 0 1 = cc in absurd (omega arith)
-plam-top (PathApp a r) m e = let z : _≡_ {A = ℕ} 0 1 = cc in absurd (omega arith)
+plam-top t m e = rw (plam-is t m e) (omega arith)
 
 -- a type that was found: one more than what was handed about only where it is a universe
 abbrev pub Ready : Term → ℕ → Type 0

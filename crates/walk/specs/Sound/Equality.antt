@@ -1,6 +1,6 @@
 -- The rows of normalize, equal and reduce state what they should.
 use Prim.Native.Nat.{ℕ, suc}
-use mathlib.Core.Path.{subst as along, _≡_}
+use mathlib.Core.Path.{subst as along, _≡_, ap}
 use mathlib.Core.List.{List, [], _∷_}
 use mathlib.Core.Option.{none}
 use lib.Dec.{lit<}
@@ -60,7 +60,7 @@ module _ (c : Callees) (S : Sound c) where
   reduce-sound d g (PathApp p r) =
       bind (S .infer d g p) λ o₀ _ _ h₀. bind (as-path-sound c S d g p (o₀ .0) (o₀ .1) h₀) λ o₁ _ _ h₁. bind (S .transform (o₁ .0) (DSubst 0 r)) λ o₂ _ e₂ h₂.
       cases (plam-body p)
-      (λ body q. pbeta-sound d g p r body (o₁ .0) (o₁ .1) (o₁ .2) (o₂ .0) (o₁ .3) (o₂ .1) (plam-is p body q) (lift e₂ h₁) h₂)
+      (λ body q. pbeta-sound d g p r body (o₁ .0) (o₁ .1) (o₁ .2) (o₂ .0) (o₁ .3) (o₂ .1) (ap quote (plam-is p body q)) (lift e₂ h₁) h₂)
       (λ _. ends-sound d g p r (o₁ .0) (o₁ .1) (o₁ .2) (o₂ .0) (o₁ .3) (o₂ .1) (lift e₂ h₁) h₂)
 
   rounds-sound : {rs : List Row} (left d : ℕ) (g : Context) (t ty current : Term) (x : ℕ) → At x (equation d g t current ty) rs → Keeps rs (rounds left c d g t ty current x) (λ o. At (o .1) (equation d g t (o .0) ty))

@@ -5,6 +5,7 @@ use mathlib.Core.Option.{Option, none, some}
 use native.Mathlib.Decide.{ℕ-discrete}
 use Rattle.walk.specs.Syntax.{I0, I1, Term, Universe, Var, Nat, Zero, Pi, Lam, App, Path, PathLam, PathApp, Context, Cons, quote, quotes, quote?}
 use Rattle.walk.specs.Judgment.{Judgment, has}
+use Rattle.walk.specs.Reader.{Kind, Kind-discrete, k-u, k-v, k-nat, k-zero, k-pi, k-lam, k-app, k-path, k-plam, k-papp}
 use Rattle.walk.specs.Rule as R
 use Rattle.walk.specs.Refusal as Refusal
 use Rattle.walk.specs.State.{M, looking, _>>=_, pure, refuse, if_then_else_, from_get_or_, of-term, key, count-all, emit, recall, remember, converting}
@@ -15,65 +16,51 @@ use Rattle.walk.specs.Walk.Numbers.{larger}
 abbrev pub typing : ℕ → Context → Term → Term → Judgment
 typing d g t ty = has d (quotes g) (quote t) (quote ty)
 
+-- A term by its kind, with its number and its parts by place; 0 and nat where it has none.
+pub record View : Type 0 where
+  pub kind : Kind
+  pub number : ℕ
+  pub one : Term
+  pub two : Term
+  pub three : Term
+
+abbrev seen : Kind → ℕ → Term → Term → Term → View
+seen k n a b c = record { kind = k; number = n; one = a; two = b; three = c }
+
+abbrev pub view : Term → View
+view (Universe l) = seen k-u l Nat Nat Nat
+view (Var n) = seen k-v n Nat Nat Nat
+view Nat = seen k-nat 0 Nat Nat Nat
+view Zero = seen k-zero 0 Nat Nat Nat
+view (Pi a b) = seen k-pi 0 a b Nat
+view (Lam a b) = seen k-lam 0 a b Nat
+view (App f a) = seen k-app 0 f a Nat
+view (Path a b c) = seen k-path 0 a b c
+view (PathLam a b) = seen k-plam 0 a b Nat
+view (PathApp p r) = seen k-papp 0 p Nat Nat
+
+-- what a term has, where it is of a kind
+abbrev pub if-so : {P A : Type 0} → Dec P → A → Option A
+if-so (yes h) a = some a
+if-so (no h) a = none
+
+abbrev pub of-kind : {A : Type 0} → Kind → View → A → Option A
+of-kind k v a = if-so (Kind-discrete (v .kind) k) a
+
 abbrev pub level : Term → Option ℕ
-level (Universe l) = some l
-level (Var n) = none
-level Nat = none
-level Zero = none
-level (Pi a b) = none
-level (Lam a b) = none
-level (App f a) = none
-level (Path a b c) = none
-level (PathLam a b) = none
-level (PathApp p r) = none
+level t = of-kind k-u (view t) (view t .number)
 
 abbrev pub pi-parts : Term → Option (Term × Term)
-pi-parts (Universe l) = none
-pi-parts (Var n) = none
-pi-parts Nat = none
-pi-parts Zero = none
-pi-parts (Pi a b) = some (a, b)
-pi-parts (Lam a b) = none
-pi-parts (App f a) = none
-pi-parts (Path a b c) = none
-pi-parts (PathLam a b) = none
-pi-parts (PathApp p r) = none
+pi-parts t = of-kind k-pi (view t) (view t .one, view t .two)
 
 abbrev pub lam-parts : Term → Option (Term × Term)
-lam-parts (Universe l) = none
-lam-parts (Var n) = none
-lam-parts Nat = none
-lam-parts Zero = none
-lam-parts (Pi a b) = none
-lam-parts (Lam a b) = some (a, b)
-lam-parts (App f a) = none
-lam-parts (Path a b c) = none
-lam-parts (PathLam a b) = none
-lam-parts (PathApp p r) = none
+lam-parts t = of-kind k-lam (view t) (view t .one, view t .two)
 
 abbrev pub path-parts : Term → Option (Term × Term × Term)
-path-parts (Universe l) = none
-path-parts (Var n) = none
-path-parts Nat = none
-path-parts Zero = none
-path-parts (Pi a b) = none
-path-parts (Lam a b) = none
-path-parts (App f a) = none
-path-parts (Path a b c) = some (a, b, c)
-path-parts (PathLam a b) = none
-path-parts (PathApp p r) = none
+path-parts t = of-kind k-path (view t) (view t .one, view t .two, view t .three)
 
 abbrev pub plam-body : Term → Option Term
-plam-body (Universe l) = none
-plam-body (Var n) = none
-plam-body Nat = none
-plam-body Zero = none
-plam-body (Pi a b) = none
-plam-body (Lam a b) = none
-plam-body (App f a) = none
-plam-body (Path a b c) = none
-plam-body (PathLam a b) = some b
-plam-body (PathApp p r) = none
+plam-body t = of-kind k-plam (view t) (view t .two)
 
 unfoldable pub expose-body : Callees → ℕ → Context → Term → Term → ℕ → M (Term × ℕ)
 expose-body c d g t ty typed = do
