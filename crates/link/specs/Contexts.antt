@@ -45,13 +45,13 @@ module _ {o : Before} {rd : M (Unit {0})} (c : Callees) (d : D.Callees) (L : Lin
   unfolding P.lookup-body P.context-row B.lookup-body when_then_else_
   lookup-matches h ℕ.zero =
       opening-context _ (λ g. B.lookup-body d g 0) h
-      (λ _ k. stopping 8)
+      (λ _ k. stopping _)
       (λ _ _ _ _ _ k a g.
       pair-then _ _ (L .transform a o-shift) λ _ _ _ _ e₁ ty.
       passing (the-term ty) (lowest-of-cell tt ty λ _ p. row-then (emitting (j-lookup (low-lift e₁ (k .low)) p) _ cite-1) λ _ _ e₂. giving _ _ λ _ f. record { left = cell-lift (extends-trans e₂ f) ty; right = refl }))
   lookup-matches h (ℕ.suc n) =
       opening-context _ (λ g. B.lookup-body d g (suc n)) h
-      (λ _ k. stopping 8)
+      (λ _ k. stopping _)
       (λ _ _ _ _ _ k a g. rw (eqb·suc-zero n, less-one n) (pair-then _ _ (L .lookup g n) λ _ _ _ _ e₁ ty.
       pair-then _ _ (L .transform ty o-shift) λ _ _ _ _ e₂ ty′.
       passing (the-term ty′) (lowest-of-cell tt ty′ λ _ p. row-then (emitting (j-lookup (low-lift (extends-trans e₁ e₂) (k .low)) p) _ cite-2) λ _ _ e₃. giving _ _ λ _ f. record { left = cell-lift (extends-trans e₃ f) ty′; right = refl })))

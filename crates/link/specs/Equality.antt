@@ -131,7 +131,7 @@ module _ {o : Before} {rd : M (Unit {0})} (c : Callees) (d : D.Callees) (L : Lin
   unfolding P.rounds P.round P.on-next B.rounds
   rounds-matches ℕ.zero n x g t y i =
       bind (L .reduce n g i) λ _ _ _ e₁ s.
-      stepped _ _ s (λ _ _ _ _ _ _ _. stopping 15) (giving _ _ λ _ f. record { left = cell-lift (extends-trans e₁ f) i; right = refl })
+      stepped _ _ s (λ _ _ _ _ _ _ _. stopping _) (giving _ _ λ _ f. record { left = cell-lift (extends-trans e₁ f) i; right = refl })
   rounds-matches (ℕ.suc left) n x g t y i =
       regrouped _ _ _ (bind (L .reduce n g i) λ _ _ _ e₁ s.
       step-then _ _ _ _ s
@@ -142,7 +142,7 @@ module _ {o : Before} {rd : M (Unit {0})} (c : Callees) (d : D.Callees) (L : Lin
       regrouped _ _ _ (row-then (emitting-eq _ n cite-2 (cell-lift f₂ g) (cell-lift f₂ t) (cell-lift e₂ now) (cell-lift f₂ y)) λ v _ e₃.
       let f₃ = extends-trans f₂ e₃ in
       given _ _ (rounds-matches left n v (cell-lift f₃ g) (cell-lift f₃ t) (cell-lift f₃ y) (cell-lift (extends-trans e₂ e₃) now)))))
-      (stopped _ 14))
+      (stopped _ _))
       (given _ _ (giving _ _ λ _ f. record { left = cell-lift (extends-trans e₁ f) i; right = refl })))
 
   pub normalize-matches : {xs : List Thing} {g t y : ℕ} {g′ : Context} {t′ y′ : Term} (n : ℕ) → Cell g (context g′) xs → Cell t (term t′) xs → Cell y (term y′) xs → Matches o xs (P.normalize-body c n g t y) (B.normalize-body d n g′ t′ y′) (Returns term)
@@ -169,4 +169,4 @@ module _ {o : Before} {rd : M (Unit {0})} (c : Callees) (d : D.Callees) (L : Lin
       (row-then (emitting-eq _ n cite-1 (cell-lift f₄ g) r (cell-lift f₄ b) (cell-lift f₄ y)) λ _ _ e₅.
       let f₅ = extends-trans f₄ e₅ in
       emitting-eq _ n cite-2 (cell-lift f₅ g) (cell-lift f₅ a) (cell-lift f₅ b) (cell-lift f₅ y))
-      (stopping 13))
+      (stopping _))

@@ -18,7 +18,6 @@ use Rattle.walk.specs.State.{Thing, interval, of-interval, M, count-all}
 use Rattle.walk.specs.State as S
 use Rattle.walk.specs.Walk.Reference as D
 use Rattle.walk.specs.Walk.Intervals as B
-use Rattle.order.specs.Guarded as G
 use Rattle.link.specs.Lists.{extends-trans}
 use Rattle.link.specs.Things.{an-interval, Cell, Low, cell-lift, low-lift}
 use Rattle.link.specs.Tables.{j-interval, j-ishift, j-isubst}
@@ -73,12 +72,12 @@ module _ {o : Before} {rd : M (Unit {0})} (c : Callees) (d : D.Callees) (L : Lin
   idim-above-matches ℕ.zero l h r = absurd (omega arith)
   idim-above-matches {k = k} (ℕ.suc n) l h r = rw (less-one n) (row-then (L .comparison k (suc n) true) λ x _ e. ifinish _ _ cite-1 (cell-lift e h) (i-subst (cell-lift e r)) (making-dim n))
 
-  idim-matches : {xs : List Thing} {i n : ℕ} {a : IOp} {b : D.IOp} → Cell i (interval (Dim n)) xs → IOps xs a b → Matches o xs (P.idim c i n a) (G.idim d n b) (Returns interval)
-  unfolding P.idim P.idim-shift P.idim-subst G.idim
+  idim-matches : {xs : List Thing} {i n : ℕ} {a : IOp} {b : D.IOp} → Cell i (interval (Dim n)) xs → IOps xs a b → Matches o xs (P.idim c i n a) (B.idim d n b) (Returns interval)
+  unfolding P.idim P.idim-shift P.idim-subst B.idim
   idim-matches {n = n} h (i-shift {k = k}) =
       branch _ (decLt n k) (less n k)
       (λ _. row-then (L .comparison n k true) λ x _ e. ifinished _ _ cite-1 (cell-lift e h) i-shift (cell-lift e h))
-      (λ _. row-then (L .comparison k n false) λ x _ e. bumping _ n λ q. rw q (ifinish _ _ cite-1 (cell-lift e h) i-shift (making-dim (suc n))))
+      (λ _. row-then (L .comparison k n false) λ x _ e. bumping _ n (L .more n) λ q. rw q (ifinish _ _ cite-1 (cell-lift e h) i-shift (making-dim (suc n))))
   idim-matches {n = n} h (i-subst {k = k} r) =
       branch _ (ℕ-discrete n k) (equal n k)
       (λ _. ifinished _ _ cite-0 h (i-subst r) r)
@@ -86,10 +85,10 @@ module _ {o : Before} {rd : M (Unit {0})} (c : Callees) (d : D.Callees) (L : Lin
       (λ _. row-then (L .comparison n k true) λ x _ e. ifinished _ _ cite-1 (cell-lift e h) (i-subst (cell-lift e r)) (cell-lift e h))
       (λ nl. idim-above-matches n (omega arith) h r))
 
-  pub itransform-matches : {xs : List Thing} {i : ℕ} {r : Interval} {p : IOp} {q : D.IOp} → Cell i (interval r) xs → IOps xs p q → Matches o xs (P.itransform-body c i p) (G.itransform-body d r q) (Returns interval)
-  unfolding P.itransform-body P.ineg P.ipair G.itransform-body when_then_else_
+  pub itransform-matches : {xs : List Thing} {i : ℕ} {r : Interval} {p : IOp} {q : D.IOp} → Cell i (interval r) xs → IOps xs p q → Matches o xs (P.itransform-body c i p) (B.itransform-body d r q) (Returns interval)
+  unfolding P.itransform-body P.ineg P.ipair B.itransform-body when_then_else_
   itransform-matches {q = q} h op =
-      opening-interval _ (λ r. G.itransform-body d r q) h
+      opening-interval _ (λ r. B.itransform-body d r q) h
       (λ _ k. ifinished-by _ _ _ cite-0 (k .cell) op (k .cell))
       (λ _ k. ifinished-by _ _ _ cite-0 (k .cell) op (k .cell))
       (λ _ _ k. idim-matches (k .cell) op)

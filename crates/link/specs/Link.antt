@@ -1,14 +1,16 @@
--- With n entries left, the functions over words match the walk's, guarded against numbers past 65,535: `link`.
+-- With n entries left, the functions over words match the guarded walk's: `link`.
 use Prim.Native.Nat.{ℕ, suc}
+use mathlib.Core.Path.{refl}
 use mathlib.Core.List.{List}
 use Rattle.producer.specs.declared.intervals.IOp.{IOp}
 use Rattle.producer.specs.declared.transforms.Op.{Op}
 use Rattle.producer.specs.Callees.{Callees}
 use Rattle.producer.specs.Calls as P
-use Rattle.walk.specs.State.{M, Thing}
+use Rattle.walk.specs.Refusal as Refusal
+use Rattle.walk.specs.State.{M, Thing, refuse, note}
 use Rattle.walk.specs.Walk.Reference as D
 use Rattle.walk.specs.Walk as B
-use Rattle.order.specs.Guarded as G
+use Rattle.order.specs.Guarded.{bump, guarded}
 use Rattle.link.specs.Holds.{Before}
 use Rattle.link.specs.Match.{stopping, entering, noting, absorbs-none, absorbs-entered, Present, nothing, the-interval, the-term, the-context, _with_}
 use Rattle.link.specs.Linked.{Linked, Ops, o-shift, o-subst, o-dshift, o-dsubst, IOps, i-shift, i-subst}
@@ -29,37 +31,43 @@ of-iop : {xs : List Thing} {a : IOp} {b : D.IOp} → IOps xs a b → Present xs 
 of-iop i-shift = nothing
 of-iop (i-subst h) = the-interval h
 
-linked-none : {o : Before} → Linked o (G.ready 0) P.none-left B.none-left
-unfolding P.none-left B.none-left G.ready
+-- the entry alone, with n entries left
+unfoldable pub ready : ℕ → M (Unit {0})
+ready ℕ.zero = refuse Refusal.nesting
+ready (ℕ.suc n) = note n
+
+linked-none : {o : Before} → Linked o (ready 0) P.none-left (B.none-left bump)
+unfolding P.none-left B.none-left ready
 linked-none = record {
-  ready = stopping 19;
-  ctx-absorbs = λ n g. absorbs-none _ 19;
-  infer-absorbs = λ n g t. absorbs-none _ 19;
-  universe-absorbs = λ n g t. absorbs-none _ 19;
-  check-absorbs = λ n g t y. absorbs-none _ 19;
-  normalize-absorbs = λ n g t y. absorbs-none _ 19;
-  equal-absorbs = λ n g a b y. absorbs-none _ 19;
-  transform-absorbs = λ t op. absorbs-none _ 19;
-  ctx = λ n g. stopping 19;
-  infer = λ n g t. stopping 19;
-  universe = λ n g t. stopping 19;
-  check = λ n g t y. stopping 19;
-  expose = λ n g t y row. stopping 19;
-  normalize = λ n g t y. stopping 19;
-  equal = λ n g a b y. stopping 19;
-  reduce = λ n g t. stopping 19;
-  lookup = λ g n. stopping 19;
-  dshiftctx = λ g. stopping 19;
-  transform = λ t op. stopping 19;
-  under = λ op dimension. stopping 19;
-  itransform = λ r op. stopping 19;
-  interval = λ n r. stopping 19;
-  comparison = λ m n strict. stopping 19;
-  max = λ m n. stopping 19;
+  ready = stopping _;
+  ctx-absorbs = λ n g. absorbs-none _ _;
+  infer-absorbs = λ n g t. absorbs-none _ _;
+  universe-absorbs = λ n g t. absorbs-none _ _;
+  check-absorbs = λ n g t y. absorbs-none _ _;
+  normalize-absorbs = λ n g t y. absorbs-none _ _;
+  equal-absorbs = λ n g a b y. absorbs-none _ _;
+  transform-absorbs = λ t op. absorbs-none _ _;
+  ctx = λ n g. stopping _;
+  infer = λ n g t. stopping _;
+  universe = λ n g t. stopping _;
+  check = λ n g t y. stopping _;
+  expose = λ n g t y row. stopping _;
+  normalize = λ n g t y. stopping _;
+  equal = λ n g a b y. stopping _;
+  reduce = λ n g t. stopping _;
+  lookup = λ g n. stopping _;
+  dshiftctx = λ g. stopping _;
+  transform = λ t op. stopping _;
+  under = λ op dimension. stopping _;
+  itransform = λ r op. stopping _;
+  interval = λ n r. stopping _;
+  comparison = λ m n strict. stopping _;
+  max = λ m n. stopping _;
+  more = λ n. refl;
 }
 
-linked-entered : {o : Before} (n : ℕ) {rd : M (Unit {0})} (c : Callees) (d : D.Callees) → Linked o rd c d → Linked o (G.ready (suc n)) (P.entered n c) (G.entered n d)
-unfolding P.entered G.entered G.ready
+linked-entered : {o : Before} (n : ℕ) {rd : M (Unit {0})} (c : Callees) (d : D.Callees) → Linked o rd c d → Linked o (ready (suc n)) (P.entered n c) (B.entered n d)
+unfolding P.entered B.entered ready
 linked-entered n c d L = record {
   ready = noting n;
   ctx-absorbs = λ m g. absorbs-entered n _ _;
@@ -85,9 +93,10 @@ linked-entered n c d L = record {
   interval = λ m r. entering n (the-interval r) (interval-matches c d L m r);
   comparison = λ m k strict. entering n nothing (comparison-matches c d L m k strict);
   max = λ m k. entering n nothing (max-matches c d L m k);
+  more = L .more;
 }
 
-pub link : {o : Before} (n : ℕ) → Linked o (G.ready n) (P.callees n) (G.callees n)
-unfolding P.callees G.callees
+pub link : {o : Before} (n : ℕ) → Linked o (ready n) (P.callees n) (guarded n)
+unfolding P.callees B.callees-by
 link ℕ.zero = linked-none
-link (ℕ.suc n) = linked-entered n (P.callees n) (G.callees n) (link n)
+link (ℕ.suc n) = linked-entered n (P.callees n) (guarded n) (link n)

@@ -21,12 +21,13 @@ use Rattle.walk.specs.State.{State, Thing, term, interval, context, of-interval
 use Rattle.walk.specs.State as S
 use Rattle.walk.specs.Walk.Reference as D
 use Rattle.walk.specs.Walk.Numbers.{larger}
-use Rattle.order.specs.Guarded as G
+use Rattle.order.specs.Numbers.{largest}
+use Rattle.order.specs.Guarded.{beyond, bump}
 use Rattle.link.specs.Lists.{Extends}
 use Rattle.link.specs.Things.{Cell, cell-lift}
 use Rattle.link.specs.Tables.{s-universe, s-var, s-nat, s-pi, s-lam, s-app, s-path, s-plam, s-papp, s-i0, s-i1, s-dim, s-neg, s-meet, s-join, s-cons}
 use Rattle.link.specs.Holds.{Before, Holds}
-use Rattle.link.specs.Match.{Agree, beyond, Matches, bind, nothing, the-interval, the-term, the-context, _with_, counting, Same, Pairs, Returns, Absorbs, Few}
+use Rattle.link.specs.Match.{Agree, by-guard, Matches, bind, nothing, the-interval, the-term, the-context, _with_, counting, Same, Pairs, Returns, Absorbs, Few}
 
 pub data IOps (xs : List Thing) : IOp → D.IOp → Type 0 where
   i-shift : {k : ℕ} → IOps xs (IShift k) (D.IShift k)
@@ -92,6 +93,7 @@ pub record Linked (o : Before) (rd : M (Unit {0})) (c : Callees) (d : D.Callees)
   pub interval : {xs : List Thing} {i : ℕ} {r : Interval} (n : ℕ) → Cell i (interval r) xs → Matches o xs (c .interval n i) (d .interval n r) Same
   pub comparison : {xs : List Thing} (m n : ℕ) (strict : Bool) → Matches o xs (c .comparison m n strict) (d .comparison m n strict) Same
   pub max : {xs : List Thing} (m n : ℕ) → Matches o xs (c .max m n) (d .max m n) Same
+  pub more : (n : ℕ) → d .more n ≡ bump n
 
 -- after a row, a cell with a row, a number with a row, a thing with the rows to cite: both sides go on with the same
 module _ {A B : Type 0} {o : Before} {xs : List Thing} {R : B → A → List Thing → Type 0} where
@@ -107,18 +109,18 @@ module _ {A B : Type 0} {o : Before} {xs : List Thing} {R : B → A → List Thi
   pub cited-then : {P K : Type 0} {rel : P → K → List Thing → Type 0} {m : W (P × Refs)} {d : M (K × List ℕ)} (f : P × Refs → W B) (g : K × List ℕ → M A) → Matches o xs m d (Carries rel) → ((n : P) (l : Refs) (c : K) (ns : List ℕ) (ys : List Thing) → Extends xs ys → rel n c ys → Few l ns → Matches o ys (f (n, l)) (g (c, ns)) R) → Matches o xs (C._>>=_ m f) (S._>>=_ d g) R
   cited-then f g h k = bind h λ p r ys e q. k (p .0) (p .1) (r .0) (r .1) ys e (q .left) (q .right)
 
-up-is : (n : ℕ) → n < 65535 → up n ≡ suc n
+up-is : (n : ℕ) → n < largest → up n ≡ suc n
 unfolding up
 up-is n l = omega arith
 
 -- the guarded walk makes the next number
-pub bumping : {A C : Type 0} {o : Before} {xs : List Thing} {R : C → A → List Thing → Type 0} {m : W C} (g : ℕ → M A) (n : ℕ) → (up n ≡ suc n → Matches o xs m (g (suc n)) R) → Matches o xs m (S._>>=_ (G.bump n) g) R
-unfolding G.bump S._>>=_ S.go-on S.if_then_else_ S.pure S.refuse
-bumping {o = o} {xs = xs} {R = R} {m = m} g n h = record { holds = λ w s e i. go w s e i (decLt n 65535) }
+pub bumping : {A C : Type 0} {o : Before} {xs : List Thing} {R : C → A → List Thing → Type 0} {m : W C} {d : M ℕ} (g : ℕ → M A) (n : ℕ) → d ≡ bump n → (up n ≡ suc n → Matches o xs m (g (suc n)) R) → Matches o xs m (S._>>=_ d g) R
+unfolding bump S._>>=_ S.go-on S.if_then_else_ S.pure S.refuse
+bumping {o = o} {xs = xs} {R = R} {m = m} g n q h = rw q (record { holds = λ w s e i. go w s e i (decLt n largest) })
   where
-    go : (w : Machine) (s : State) → Extends xs (s .cells) → Holds o w s → (d : Dec (n < 65535)) → Agree o xs R (m w) (S.go-on ((S.if_then_else_ d (S.pure (suc n)) (S.refuse 21)) s) g)
+    go : (w : Machine) (s : State) → Extends xs (s .cells) → Holds o w s → (d : Dec (n < largest)) → Agree o xs R (m w) (S.go-on ((S.if_then_else_ d (S.pure (suc n)) (S.refuse beyond)) s) g)
     go w s e i (yes l) = h (up-is n l) .holds w s e i
-    go w s e i (no l) = beyond
+    go w s e i (no l) = by-guard
 
 pub less-one : (m : ℕ) → suc m - 1 ≡ m
 less-one m = omega arith

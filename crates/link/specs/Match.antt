@@ -21,20 +21,22 @@ use Rattle.producer.specs.Machine.{Machine, machine, Result, is, not, W, next, 
 use Rattle.producer.specs.Machine as C
 use Rattle.producer.specs.Callees.{Callees, prepared}
 use Rattle.walk.specs.Syntax.{Interval, Term, Context}
+use Rattle.walk.specs.Refusal as Refusal
 use Rattle.walk.specs.Judgment.{Judgment}
 use Rattle.walk.specs.State.{State, Thing, term, interval, context, inference, key, row-of, of-interval, of-term, of-context, Outcome, done, refused, M, go-on, looking, pure, refuse, if_then_else_, from_get_or_, count, count-all, with-cell, push, with-row, note, with-deepest, recall, with-memory, store}
 use Rattle.walk.specs.State as D
+use Rattle.order.specs.Guarded.{beyond}
 use Rattle.link.specs.Lists.{yes?, first, Extends, same, more, extends-trans, first-found}
 use Rattle.link.specs.Things.{show, Cell, Low, is-thing, shows, cell-lift, Plain, Held, held, Known, none-left, known, known-append, known-head, held-lift}
 use Rattle.link.specs.Tables.{Shape, s-lift, s-plain, Spoken, j-lift}
 use Rattle.link.specs.Store.{refs-of, plain, line, Cells, cell-by, quote-is, node-test, looks, look-test, row-test, found-of, rows-found, among-found, among-none, comes, lowest-comes, interval-known, term-known, context-known, Kept, no-memory, a-memory-at, memory-test}
 use Rattle.link.specs.Holds.{Before, Holds, less, read-cell, more-cells, more-rows, no-cell-children, no-row-children, found-node, found-look, found-row, converted, deeper, replaced-holds, added-holds}
 
--- both end alike; nothing is said where a number would pass 65,535 (never met)
+-- both end alike; nothing is said where the guard stops the walk (never met)
 pub data Agree {A B : Type 0} (o : Before) (xs : List Thing) (Q : B → A → List Thing → Type 0) : Result B → Outcome A → Type 0 where
   both-done : {a : A} {b : B} {w : Machine} {s : State} → Extends xs (s .cells) → Holds o w s → Q b a (s .cells) → Agree o xs Q (is b w) (done a s)
   both-refused : {n : ℕ} {w : Machine} {s : State} → Extends xs (s .cells) → Holds o w s → Agree o xs Q (not n w) (refused n s)
-  beyond : {r : Result B} {s : State} → Agree o xs Q r (refused 21 s)
+  by-guard : {r : Result B} {s : State} → Agree o xs Q r (refused beyond s)
 
 pub record Matches {A B : Type 0} (o : Before) (xs : List Thing) (m : W B) (d : M A) (Q : B → A → List Thing → Type 0) : Type 0 where
   pub holds : (w : Machine) (s : State) → Extends xs (s .cells) → Holds o w s → Agree o xs Q (m w) (d s)
@@ -42,14 +44,14 @@ pub record Matches {A B : Type 0} (o : Before) (xs : List Thing) (m : W B) (d : 
 later : {A B : Type 0} {o : Before} {xs ys : List Thing} {Q : B → A → List Thing → Type 0} {r : Result B} {d : Outcome A} → Extends xs ys → Agree o ys Q r d → Agree o xs Q r d
 later e (both-done f h q) = both-done (extends-trans e f) h q
 later e (both-refused f h) = both-refused (extends-trans e f) h
-later e beyond = beyond
+later e by-guard = by-guard
 
 module _ {A A′ B B′ : Type 0} {o : Before} {xs : List Thing} {Q : B → A → List Thing → Type 0} {R : B′ → A′ → List Thing → Type 0} where
   then-agrees : {r : Result B} {d : Outcome A} {f : B → W B′} {g : A → M A′} → Agree o xs Q r d → ((b : B) (a : A) (ys : List Thing) → Extends xs ys → Q b a ys → Matches o ys (f b) (g a) R) → Agree o xs R (next r f) (go-on d g)
   unfolding next go-on
   then-agrees (both-done {a = a} {b = b} {w = w} {s = s} e h q) k = later e (k b a (s .cells) e q .holds w s same h)
   then-agrees (both-refused e h) k = both-refused e h
-  then-agrees beyond k = beyond
+  then-agrees by-guard k = by-guard
 
   pub bind : {m : W B} {d : M A} {f : B → W B′} {g : A → M A′} → Matches o xs m d Q → ((b : B) (a : A) (ys : List Thing) → Extends xs ys → Q b a ys → Matches o ys (f b) (g a) R) → Matches o xs (C._>>=_ m f) (D._>>=_ d g) R
   unfolding C._>>=_ D._>>=_
@@ -119,13 +121,13 @@ count-one s x = go (count x s)
 -- what a count does where there is no cell yet
 fresh : (x : Thing) (s : State) → Dec (length (s .cells) < s .cell-room) → Outcome (Unit {0})
 fresh x s (yes h) = done tt (with-cell x s)
-fresh x s (no h) = refused 20 s
+fresh x s (no h) = refused Refusal.cells s
 
 count-new : (x : Thing) (s : State) → first (is-thing x) (s .cells) ≡ Nothing → count x s ≡ fresh x s (decLt (length (s .cells)) (s .cell-room))
 unfolding count fresh
 count-new x s e = rw (among-none x (s .cells) e, count) (go (decLt (length (s .cells)) (s .cell-room)))
   where
-    go : (d : Dec (length (s .cells) < s .cell-room)) → elim d as (λ _. Outcome (Unit {0})) [ yes h ↦ done tt (with-cell x s) | no h ↦ refused 20 s ] ≡ fresh x s d
+    go : (d : Dec (length (s .cells) < s .cell-room)) → elim d as (λ _. Outcome (Unit {0})) [ yes h ↦ done tt (with-cell x s) | no h ↦ refused Refusal.cells s ] ≡ fresh x s d
     go (yes h) = refl
     go (no h) = refl
 
@@ -148,7 +150,7 @@ interning {o} {xs} {k} {a} {b} {c} {x} shape = record { holds = λ w s e h. rw (
     searched : (w : Machine) (s : State) → Extends xs (s .cells) → Holds o w s → find-node (w .cells) (w .state .cells) k a b c ≡ first (is-thing x) (s .cells)
     searched w s e h = rw (h .counts, found-node (h .cells-index) k a b c) (first-found (is-thing x) (same-node (w .cells) k a b c) (s .cells) (λ n y m. rw (h .words .cells-end) (node-test (drop (length (s .cells) * 8) (o .cells)) (s-lift e shape) (h .words .cells-are) m)))
 
-    new : (w : Machine) (s : State) → Extends xs (s .cells) → Holds o w s → first (is-thing x) (s .cells) ≡ Nothing → (d : Dec (length (s .cells) < s .cell-room)) → (t : Bool) → t ≡ yes? d → Agree {A = Unit {0}} o xs (λ n _ ys. Cell n x ys) (ifb t (is (w .state .cells) (add-cell (k ∷ a ∷ b ∷ c ∷ lowest-of (w .cells) (w .state .cells) k a b c ∷ 0 ∷ 0 ∷ 0 ∷ []) w)) (not 20 w)) (fresh x s d)
+    new : (w : Machine) (s : State) → Extends xs (s .cells) → Holds o w s → first (is-thing x) (s .cells) ≡ Nothing → (d : Dec (length (s .cells) < s .cell-room)) → (t : Bool) → t ≡ yes? d → Agree {A = Unit {0}} o xs (λ n _ ys. Cell n x ys) (ifb t (is (w .state .cells) (add-cell (k ∷ a ∷ b ∷ c ∷ lowest-of (w .cells) (w .state .cells) k a b c ∷ 0 ∷ 0 ∷ 0 ∷ []) w)) (not Refusal.cells w)) (fresh x s d)
     new w s e h f (yes l) true g = both-done {b = w .state .cells} {s = with-cell x s} (more e) (more-cells (s-plain shape .1) h (plain (s-lift e shape) (low shape w s e h)) refl (no-cell-children k a b c _ 0) l) (rw (h .counts) (comes x (s .cells) f))
     new w s e h f (yes l) false g = let z : _≡_ {A = ℕ} 0 1 = cc in absurd (omega arith)
     new w s e h f (no l) true g = let z : _≡_ {A = ℕ} 0 1 = cc in absurd (omega arith)
@@ -265,9 +267,9 @@ module _ {o : Before} {xs : List Thing} {k n a b c d e : ℕ} {j : Judgment} (sp
 
   pub emitting : {l : Refs} {refs : List ℕ} (rule : ℕ) → Cites l refs → Matches o xs (emit rule l k n a b c d e) (D.emit rule refs j) Same
   unfolding emit D.emit looking new-row if_then_else_ push refuse with-row
-  emitting {refs = refs} rule q = rw (q .are) (record { holds = λ w s i h. known-agrees (new-row (row-block rule (refs-of refs) k n a b c d e)) (if decLt (length (s .rows)) (s .row-room) then push (record { rule = rule; refs = refs; judgment = j }) else refuse 18) w s i h (new w s i h (decLt (length (s .rows)) (s .row-room)) (ltb (w .state .rows) (w .state .rowroom)) (rw (h .counts) (less (length (s .rows)) (s .row-room)))) })
+  emitting {refs = refs} rule q = rw (q .are) (record { holds = λ w s i h. known-agrees (new-row (row-block rule (refs-of refs) k n a b c d e)) (if decLt (length (s .rows)) (s .row-room) then push (record { rule = rule; refs = refs; judgment = j }) else refuse Refusal.rows) w s i h (new w s i h (decLt (length (s .rows)) (s .row-room)) (ltb (w .state .rows) (w .state .rowroom)) (rw (h .counts) (less (length (s .rows)) (s .row-room)))) })
     where
-      new : (w : Machine) (s : State) → Extends xs (s .cells) → Holds o w s → (f : Dec (length (s .rows) < s .row-room)) (t : Bool) → t ≡ yes? f → Agree o xs Same (ifb t (is (w .state .rows) (add-row (row-block rule (refs-of refs) k n a b c d e) w)) (not 18 w)) ((if f then push (record { rule = rule; refs = refs; judgment = j }) else refuse 18) s)
+      new : (w : Machine) (s : State) → Extends xs (s .cells) → Holds o w s → (f : Dec (length (s .rows) < s .row-room)) (t : Bool) → t ≡ yes? f → Agree o xs Same (ifb t (is (w .state .rows) (add-row (row-block rule (refs-of refs) k n a b c d e) w)) (not Refusal.rows w)) ((if f then push (record { rule = rule; refs = refs; judgment = j }) else refuse Refusal.rows) s)
       new w s i h (yes l) true g = both-done {a = length (s .rows)} {b = w .state .rows} {s = with-row (record { rule = rule; refs = refs; judgment = j }) s} i (more-rows h (line (j-lift i spoken)) refl (no-row-children rule (refs-of refs) k n a b c d e) l) (rw (h .counts))
       new w s i h (yes l) false g = let z : _≡_ {A = ℕ} 0 1 = cc in absurd (omega arith)
       new w s i h (no l) true g = let z : _≡_ {A = ℕ} 0 1 = cc in absurd (omega arith)
@@ -306,7 +308,7 @@ module _ {o : Before} {xs : List Thing} {g t : ℕ} {G : Context} {t′ : Term} 
   unfolding remember remembered-or new-memory D.remember D._>>=_ go-on store fresh with-cell with-memory
   remembering {y} {y′} row hy = record { holds = λ w s e h. rw (memory-searched w s e h) (go w s e h (first (is-thing (inference (key d G t′))) (s .cells)) refl) }
     where
-      new : (w : Machine) (s : State) → Extends xs (s .cells) → Holds o w s → first (is-thing (inference (key d G t′))) (s .cells) ≡ Nothing → (f : Dec (length (s .cells) < s .cell-room)) (b : Bool) → b ≡ yes? f → Agree {A = Unit {0}} o xs (λ _ _ _. Unit {0}) (ifb {A = Result (Unit {0})} b (is tt (add-cell (40 ∷ d ∷ g ∷ t ∷ y ∷ row ∷ 0 ∷ 0 ∷ []) w)) (not 20 w)) (go-on (fresh (inference (key d G t′)) s f) (λ _. store (record { of = key d G t′; type = y′; row = row })))
+      new : (w : Machine) (s : State) → Extends xs (s .cells) → Holds o w s → first (is-thing (inference (key d G t′))) (s .cells) ≡ Nothing → (f : Dec (length (s .cells) < s .cell-room)) (b : Bool) → b ≡ yes? f → Agree {A = Unit {0}} o xs (λ _ _ _. Unit {0}) (ifb {A = Result (Unit {0})} b (is tt (add-cell (40 ∷ d ∷ g ∷ t ∷ y ∷ row ∷ 0 ∷ 0 ∷ []) w)) (not Refusal.cells w)) (go-on (fresh (inference (key d G t′)) s f) (λ _. store (record { of = key d G t′; type = y′; row = row })))
       new w s e h n (yes l) true q = both-done {b = tt} {s = with-memory (record { of = key d G t′; type = y′; row = row }) (with-cell (inference (key d G t′)) s)} (more e) (added-holds d row h n (cell-lift e hg) (cell-lift e ht) (cell-lift e hy) l) tt
       new w s e h n (yes l) false q = let z : _≡_ {A = ℕ} 0 1 = cc in absurd (omega arith)
       new w s e h n (no l) true q = let z : _≡_ {A = ℕ} 0 1 = cc in absurd (omega arith)
@@ -321,13 +323,13 @@ ended-agrees : {A B : Type 0} {o : Before} {xs : List Thing} {Q : B → A → Li
 unfolding C.ended D.ended D.with-conversions
 ended-agrees (both-done {w = w} {s = s} e h q) = both-done {w = with-conversions (w .state .conversions - 1) w} {s = D.with-conversions (s .conversions - 1) s} e (converted (rw (h .counts)) h) q
 ended-agrees (both-refused {w = w} {s = s} e h) = both-refused {w = with-conversions (w .state .conversions - 1) w} {s = D.with-conversions (s .conversions - 1) s} e (converted (rw (h .counts)) h)
-ended-agrees (beyond {s = s}) = beyond {s = D.with-conversions (s .conversions - 1) s}
+ended-agrees (by-guard {s = s}) = by-guard {s = D.with-conversions (s .conversions - 1) s}
 
 pub converting : {A B : Type 0} {o : Before} {xs : List Thing} {Q : B → A → List Thing → Type 0} {m : W B} {d : M A} → Matches o xs m d Q → Matches o xs (C.converting m) (D.converting d) Q
 unfolding C.converting D.converting D.converted looking if_then_else_ refuse D.with-conversions
 converting {o = o} {xs = xs} {Q = Q} {m = m} {d = d} k = record { holds = λ w s e h. go w s e h (decLt (s .conversions) 32) (ltb (w .state .conversions) 32) (rw (h .counts) (less (s .conversions) 32)) }
   where
-    go : (w : Machine) (s : State) → Extends xs (s .cells) → Holds o w s → (f : Dec (s .conversions < 32)) (b : Bool) → b ≡ yes? f → Agree o xs Q (ifb b (C.ended (m (with-conversions (w .state .conversions + 1) w))) (not 16 w)) ((if f then D.converted d else refuse 16) s)
+    go : (w : Machine) (s : State) → Extends xs (s .cells) → Holds o w s → (f : Dec (s .conversions < 32)) (b : Bool) → b ≡ yes? f → Agree o xs Q (ifb b (C.ended (m (with-conversions (w .state .conversions + 1) w))) (not Refusal.conversions w)) ((if f then D.converted d else refuse Refusal.conversions) s)
     go w s e h (yes l) true g = ended-agrees (k .holds (with-conversions (w .state .conversions + 1) w) (D.with-conversions (s .conversions + 1) s) e (converted (rw (h .counts)) h))
     go w s e h (yes l) false g = let z : _≡_ {A = ℕ} 0 1 = cc in absurd (omega arith)
     go w s e h (no l) true g = let z : _≡_ {A = ℕ} 0 1 = cc in absurd (omega arith)
@@ -415,7 +417,7 @@ following {o = o} {xs = xs} {bs = bs} {Q = Q} zs k p = record { holds = λ w s e
     go : {r : Result ℕ} {d : Outcome (Unit {0})} → Agree o xs Q r d → Agree o xs Q r (go-on d (λ _. count-all bs))
     go (both-done {s = s} e h q) = rw (counted s bs (present-known p e (h .words .cells-are))) (both-done e h q)
     go (both-refused e h) = both-refused e h
-    go beyond = beyond
+    go by-guard = by-guard
 
 -- the entry alone
 pub noting : {o : Before} {xs : List Thing} (n : ℕ) → Matches o xs (C.note n) (note n) (λ _ _ _. Unit {0})

@@ -31,8 +31,8 @@ module _ {o : Before} {rd : M (Unit {0})} (c : Callees) (d : D.Callees) (L : Lin
 
   pub comparison-matches : {xs : List Thing} (m n : ℕ) (strict : Bool) → Matches o xs (P.comparison-body c m n strict) (B.comparison-body d m n strict) Same
   unfolding P.comparison-body B.comparison-body when_then_else_
-  comparison-matches m n true = branch _ (decLt m n) (less m n) (λ l. lt-matches m n l) (λ _. stopping 17)
-  comparison-matches m n false = branch _ (decLe m n) (at-most m n) (λ l. le-matches m n l) (λ _. stopping 17)
+  comparison-matches m n true = branch _ (decLt m n) (less m n) (λ l. lt-matches m n l) (λ _. stopping _)
+  comparison-matches m n false = branch _ (decLe m n) (at-most m n) (λ l. le-matches m n l) (λ _. stopping _)
 
   pub max-matches : {xs : List Thing} (m n : ℕ) → Matches o xs (P.max-body c m n) (B.max-body d m n) Same
   unfolding P.max-body B.max-body when_then_else_

@@ -61,7 +61,7 @@ module _ {A C : Type 0} {o : Before} {xs : List Thing} {Q : C → A → List Thi
   leaves : {r : Result C} {d : Outcome A} → Ends o xs Q r d → Leaves o xs (told row result r) (answered row′ result′ d)
   unfolding told answered
   leaves (in-value {a = a} {b = c} {s = s} e h g q) = let p = f c a (s .cells) q in record { extends = e; holds = h; fit = g; says = record { number = refl; row = p .same-row; deepest = ap (λ (n : Counts). n .deepest) (h .counts); result = p .same-result } }
-  leaves (in-refusal z e h g) = record { extends = e; holds = h; fit = g; says = record { number = refl; row = refl; deepest = ap (λ (n : Counts). n .deepest) (h .counts); result = no-word } }
+  leaves (in-refusal e h g) = record { extends = e; holds = h; fit = g; says = record { number = refl; row = refl; deepest = ap (λ (n : Counts). n .deepest) (h .counts); result = no-word } }
 
 asked : {o : Before} {w : Machine} {s : State} (n : ℕ) (code : Code) (d : ℕ) (g : Context) (ts : List Term) → d + n ≤ 4200 → context-top g ≤ 32 → Lows ts → Fit s → Holds o w s → Leaves o (s .cells) (ask (callees n) code d g ts w) (walk (walk-callees n) code d g ts s)
 unfolding ask walk

@@ -19,7 +19,6 @@ use Rattle.walk.specs.State.{Thing, term, interval, of-term, M, count-all}
 use Rattle.walk.specs.State as S
 use Rattle.walk.specs.Walk.Reference as D
 use Rattle.walk.specs.Walk.Transforms as B
-use Rattle.order.specs.Guarded as G
 use Rattle.link.specs.Lists.{extends-trans}
 use Rattle.link.specs.Things.{a-quote, Cell, Low, cell-lift}
 use Rattle.link.specs.Tables.{j-shift, j-subst, j-dshift, j-dsubst}
@@ -62,15 +61,15 @@ module _ {o : Before} {xs : List Thing} {l : Refs} {refs : List ℕ} {p : Op} {q
   finish-by z h op m = rw (op-rule a b c d op) (finish out _ z h op m)
 
 module _ {o : Before} {rd : M (Unit {0})} (c : Callees) (d : D.Callees) (L : Linked o rd c d) where
-  pub under-matches : {xs : List Thing} {a : Op} {b : D.Op} → Ops xs a b → (dimension : Bool) → Matches o xs (P.under-body c a dimension) (G.under-body d b dimension) (Carries Moves)
-  unfolding P.under-body P.under-subst G.under-body when_then_else_
+  pub under-matches : {xs : List Thing} {a : Op} {b : D.Op} → Ops xs a b → (dimension : Bool) → Matches o xs (P.under-body c a dimension) (B.under-body d b dimension) (Carries Moves)
+  unfolding P.under-body P.under-subst B.under-body when_then_else_
   under-matches o-shift true = giving _ _ λ _ _. record { left = o-shift; right = no-row }
-  under-matches (o-shift {k = k}) false = bumping _ k λ q. rw q (giving _ _ λ _ _. record { left = o-shift; right = no-row })
+  under-matches (o-shift {k = k}) false = bumping _ k (L .more k) λ q. rw q (giving _ _ λ _ _. record { left = o-shift; right = no-row })
   under-matches (o-subst h) true = pair-then _ _ (L .transform h o-dshift) λ _ _ _ _ e k. giving _ _ λ _ f. record { left = o-subst (cell-lift f k); right = one-row }
-  under-matches (o-subst {k = n} h) false = pair-then _ _ (L .transform h o-shift) λ _ _ _ _ _ k. bumping _ n λ q. rw q (giving _ _ λ _ f. record { left = o-subst (cell-lift f k); right = one-row })
-  under-matches (o-dshift {k = k}) true = bumping _ k λ q. rw q (giving _ _ λ _ _. record { left = o-dshift; right = no-row })
+  under-matches (o-subst {k = n} h) false = pair-then _ _ (L .transform h o-shift) λ _ _ _ _ _ k. bumping _ n (L .more n) λ q. rw q (giving _ _ λ _ f. record { left = o-subst (cell-lift f k); right = one-row })
+  under-matches (o-dshift {k = k}) true = bumping _ k (L .more k) λ q. rw q (giving _ _ λ _ _. record { left = o-dshift; right = no-row })
   under-matches o-dshift false = giving _ _ λ _ _. record { left = o-dshift; right = no-row }
-  under-matches (o-dsubst {k = n} h) true = pair-then _ _ (L .itransform h i-shift) λ _ _ _ _ _ k. bumping _ n λ q. rw q (giving _ _ λ _ f. record { left = o-dsubst (cell-lift f k); right = one-row })
+  under-matches (o-dsubst {k = n} h) true = pair-then _ _ (L .itransform h i-shift) λ _ _ _ _ _ k. bumping _ n (L .more n) λ q. rw q (giving _ _ λ _ f. record { left = o-dsubst (cell-lift f k); right = one-row })
   under-matches (o-dsubst h) false = giving _ _ λ _ f. record { left = o-dsubst (cell-lift f h); right = no-row }
 
   tvar-above-matches : {xs : List Thing} {i k r : ℕ} {t : Term} (n : ℕ) → k < n → Cell i (term (Var n)) xs → Cell r (term t) xs → Matches o xs (C._>>=_ (c .comparison k n true) λ x. P.finish i (Subst k r) (make-var (n - 1)) R.subst·v·gt (refs-1 x)) (B.tvar-above d n k t) (Returns term)
@@ -78,12 +77,12 @@ module _ {o : Before} {rd : M (Unit {0})} (c : Callees) (d : D.Callees) (L : Lin
   tvar-above-matches ℕ.zero l h r = absurd (omega arith)
   tvar-above-matches {k = k} (ℕ.suc n) l h r = rw (less-one n) (row-then (L .comparison k (suc n) true) λ x _ e. finish _ _ cite-1 (cell-lift e h) (o-subst (cell-lift e r)) (making-var n))
 
-  tvar-matches : {xs : List Thing} {i n : ℕ} {a : Op} {b : D.Op} → Cell i (term (Var n)) xs → Ops xs a b → Matches o xs (P.tvar c i n a) (G.tvar d n b) (Returns term)
-  unfolding P.tvar P.tvar-shift P.tvar-subst G.tvar
+  tvar-matches : {xs : List Thing} {i n : ℕ} {a : Op} {b : D.Op} → Cell i (term (Var n)) xs → Ops xs a b → Matches o xs (P.tvar c i n a) (B.tvar d n b) (Returns term)
+  unfolding P.tvar P.tvar-shift P.tvar-subst B.tvar
   tvar-matches {n = n} h (o-shift {k = k}) =
       branch _ (decLt n k) (less n k)
       (λ _. row-then (L .comparison n k true) λ x _ e. finished _ _ cite-1 (cell-lift e h) o-shift (cell-lift e h))
-      (λ _. row-then (L .comparison k n false) λ x _ e. bumping _ n λ q. rw q (finish _ _ cite-1 (cell-lift e h) o-shift (making-var (suc n))))
+      (λ _. row-then (L .comparison k n false) λ x _ e. bumping _ n (L .more n) λ q. rw q (finish _ _ cite-1 (cell-lift e h) o-shift (making-var (suc n))))
   tvar-matches {n = n} h (o-subst {k = k} r) =
       branch _ (ℕ-discrete n k) (equal n k)
       (λ _. finished _ _ cite-0 h (o-subst r) r)
@@ -100,10 +99,10 @@ module _ {o : Before} {rd : M (Unit {0})} (c : Callees) (d : D.Callees) (L : Lin
   tinterval-matches h o-dshift = pair-then _ _ (L .itransform h i-shift) λ _ _ _ _ _ k. giving _ _ λ _ e. record { left = cell-lift e k; right = one-row }
   tinterval-matches h (o-dsubst r) = pair-then _ _ (L .itransform h (i-subst r)) λ _ _ _ _ _ k. giving _ _ λ _ e. record { left = cell-lift e k; right = one-row }
 
-  pub transform-matches : {xs : List Thing} {i : ℕ} {t : Term} {p : Op} {q : D.Op} → Cell i (term t) xs → Ops xs p q → Matches o xs (P.transform-body c i p) (G.transform-body d t q) (Returns term)
-  unfolding P.transform-body P.compound P.transform-pi P.transform-lam P.transform-app P.transform-path P.transform-plam P.transform-papp G.transform-body when_then_else_
+  pub transform-matches : {xs : List Thing} {i : ℕ} {t : Term} {p : Op} {q : D.Op} → Cell i (term t) xs → Ops xs p q → Matches o xs (P.transform-body c i p) (B.transform-body d t q) (Returns term)
+  unfolding P.transform-body P.compound P.transform-pi P.transform-lam P.transform-app P.transform-path P.transform-plam P.transform-papp B.transform-body when_then_else_
   transform-matches {q = q} h op =
-      opening-term _ (λ t. G.transform-body d t q) h
+      opening-term _ (λ t. B.transform-body d t q) h
       (λ _ _ k. finished-by _ _ _ _ _ cite-0 (k .cell) op (k .cell))
       (λ _ _ k. tvar-matches (k .cell) op)
       (λ _ k. finished-by _ _ _ _ _ cite-0 (k .cell) op (k .cell))

@@ -16,7 +16,6 @@ use Rattle.walk.specs.State as S
 use Rattle.walk.specs.Walk.Reference as D
 use Rattle.walk.specs.Walk.Numbers.{larger}
 use Rattle.walk.specs.Walk.Typing as B
-use Rattle.order.specs.Guarded as G
 use Rattle.link.specs.Lists.{Extends, extends-trans}
 use Rattle.link.specs.Things.{Cell, cell-lift}
 use Rattle.link.specs.Tables.{j-has, j-eq}
@@ -113,7 +112,7 @@ module _ {o : Before} {rd : M (Unit {0})} (c : Callees) (d : D.Callees) (L : Lin
       at-universe _ _ ty
       (λ l. giving _ _ λ _ _. record { left = refl; right = refl })
       (converting (pair-then _ _ (L .expose n (cell-lift e₁ g) (cell-lift e₁ t) ty row) λ _ _ _ _ _ normal.
-      at-universe _ _ normal (λ l. giving _ _ λ _ _. record { left = refl; right = refl }) (stopping 11)))
+      at-universe _ _ normal (λ l. giving _ _ λ _ _. record { left = refl; right = refl }) (stopping _)))
 
   pub check-matches : {xs : List Thing} {g t y : ℕ} {g′ : Context} {t′ y′ : Term} (n : ℕ) → Cell g (context g′) xs → Cell t (term t′) xs → Cell y (term y′) xs → Matches o xs (P.check-body c n g t y) (B.check-body d n g′ t′ y′) Same
   unfolding P.check-body P.converted B.check-body
@@ -129,7 +128,7 @@ module _ {o : Before} {rd : M (Unit {0})} (c : Callees) (d : D.Callees) (L : Lin
       (λ _. row-then (equal-at n i (cell-lift f₃ g) (cell-lift (extends-trans e₂ e₃) actual) (cell-lift f₃ y)) λ x _ e₄.
       let f₄ = extends-trans f₃ e₄ in
       emitting-has _ n cite-3 (cell-lift f₄ g) (cell-lift f₄ t) (cell-lift f₄ y))
-      (λ _. stopping 12)))
+      (λ _. stopping _)))
 
   as-pi-matches : {xs : List Thing} {g t y : ℕ} {g′ : Context} {t′ y′ : Term} (n : ℕ) → Cell g (context g′) xs → Cell t (term t′) xs → Cell y (term y′) xs → (row : ℕ) → Matches o xs (P.as-pi c n g t y row) (B.as-pi d n g′ t′ y′ row) Three
   unfolding P.as-pi P.opened B.as-pi
@@ -137,7 +136,7 @@ module _ {o : Before} {rd : M (Unit {0})} (c : Callees) (d : D.Callees) (L : Lin
       at-pi _ _ y
       (λ _ _ _ _ a b. giving _ _ λ _ f. record { one = cell-lift f a; two = cell-lift f b; row = refl })
       (pair-then _ _ (converting (L .expose n g t y row)) λ _ _ _ _ _ y′.
-      at-pi _ _ y′ (λ _ _ _ _ a b. giving _ _ λ _ f. record { one = cell-lift f a; two = cell-lift f b; row = refl }) (stopping 9))
+      at-pi _ _ y′ (λ _ _ _ _ a b. giving _ _ λ _ f. record { one = cell-lift f a; two = cell-lift f b; row = refl }) (stopping _))
 
   pub as-path-matches : {xs : List Thing} {g t y : ℕ} {g′ : Context} {t′ y′ : Term} (n : ℕ) → Cell g (context g′) xs → Cell t (term t′) xs → Cell y (term y′) xs → (row : ℕ) → Matches o xs (P.as-path c n g t y row) (B.as-path d n g′ t′ y′ row) Four
   unfolding P.as-path P.opened B.as-path
@@ -145,17 +144,17 @@ module _ {o : Before} {rd : M (Unit {0})} (c : Callees) (d : D.Callees) (L : Lin
       at-path _ _ y
       (λ _ _ _ _ _ _ a b e. giving _ _ λ _ f. record { one = cell-lift f a; two = cell-lift f b; three = cell-lift f e; row = refl })
       (pair-then _ _ (converting (L .expose n g t y row)) λ _ _ _ _ _ y′.
-      at-path _ _ y′ (λ _ _ _ _ _ _ a b e. giving _ _ λ _ f. record { one = cell-lift f a; two = cell-lift f b; three = cell-lift f e; row = refl }) (stopping 10))
+      at-path _ _ y′ (λ _ _ _ _ _ _ a b e. giving _ _ λ _ f. record { one = cell-lift f a; two = cell-lift f b; three = cell-lift f e; row = refl }) (stopping _))
 
-  founding : {xs : List Thing} {make : W ℕ} {l : Refs} {refs : List ℕ} (ty : Term) (rule : ℕ) → Cites l refs → Matches o xs make (count-all (of-term ty)) (λ n _. Cell n (term ty)) → Matches o xs (P.found make l rule) (G.found ty refs rule) Finds
-  unfolding P.found G.found
+  founding : {xs : List Thing} {make : W ℕ} {l : Refs} {refs : List ℕ} (ty : Term) (rule : ℕ) → Cites l refs → Matches o xs make (count-all (of-term ty)) (λ n _. Cell n (term ty)) → Matches o xs (P.found make l rule) (B.found ty refs rule) Finds
+  unfolding P.found B.found
   founding ty rule c m = bind m λ _ _ _ _ h. giving _ _ λ _ e. record { type = cell-lift e h; refs = c; rule = refl }
 
-  find-matches : {xs : List Thing} {g t : ℕ} {g′ : Context} {t′ : Term} (n : ℕ) → Cell g (context g′) xs → Cell t (term t′) xs → Matches o xs (P.find c n g t) (G.find d n g′ t′) Finds
-  unfolding P.find P.find-compound P.find-atom P.find-var P.find-pi P.find-lam P.find-app P.find-path P.path-ends P.find-plam P.plam-ends P.find-papp G.find when_then_else_
+  find-matches : {xs : List Thing} {g t : ℕ} {g′ : Context} {t′ : Term} (n : ℕ) → Cell g (context g′) xs → Cell t (term t′) xs → Matches o xs (P.find c n g t) (B.find d n g′ t′) Finds
+  unfolding P.find P.find-compound P.find-atom P.find-var P.find-pi P.find-lam P.find-app P.find-path P.path-ends P.find-plam P.plam-ends P.find-papp B.find when_then_else_
   find-matches {g′ = g′} n g t =
-      opening-term _ (G.find d n g′) t
-      (λ _ l _. row-then (L .ctx n g) λ _ _ _. bumping _ l λ q. rw q (founding _ _ cite-1 (making-universe (suc l))))
+      opening-term _ (B.find d n g′) t
+      (λ _ l _. row-then (L .ctx n g) λ _ _ _. bumping _ l (L .more l) λ q. rw q (founding _ _ cite-1 (making-universe (suc l))))
       (λ _ i _. row-then (L .ctx n g) λ _ _ e₁.
       pair-then _ _ (L .lookup (cell-lift e₁ g) i) λ _ _ _ _ _ ty.
       founding _ _ cite-2 (having (the-term ty) ty))
@@ -182,7 +181,7 @@ module _ {o : Before} {rd : M (Unit {0})} (c : Callees) (d : D.Callees) (L : Lin
       (λ _ _ _ _ _ _ _ _ a b e.
       row-then (L .ctx n g) λ _ _ e₀.
       pair-then _ _ (L .dshiftctx (cell-lift e₀ g)) λ _ _ _ _ e₁ inner.
-      bumping _ n λ q. rw q (
+      bumping _ n (L .more n) λ q. rw q (
       let f₁ = extends-trans e₀ e₁ in
       number-then _ _ (L .universe (suc n) inner (cell-lift f₁ a)) λ l _ _ e₂.
       let f₂ = extends-trans f₁ e₂ in
@@ -195,7 +194,7 @@ module _ {o : Before} {rd : M (Unit {0})} (c : Callees) (d : D.Callees) (L : Lin
       (λ _ _ _ _ _ _ a b.
       row-then (L .ctx n g) λ _ _ e₀.
       pair-then _ _ (L .dshiftctx (cell-lift e₀ g)) λ _ _ _ _ e₁ inner.
-      bumping _ n λ q. rw q (
+      bumping _ n (L .more n) λ q. rw q (
       let f₁ = extends-trans e₀ e₁ in
       number-then _ _ (L .universe (suc n) inner (cell-lift f₁ a)) λ _ _ _ e₂.
       let f₂ = extends-trans f₁ e₂ in
@@ -220,8 +219,8 @@ module _ {o : Before} {rd : M (Unit {0})} (c : Callees) (d : D.Callees) (L : Lin
       number-then _ _ (L .universe n (cell-lift (extends-trans f₃ e₄) g) out) λ _ _ _ e₅.
       founding _ _ cite-4 (having (the-term (cell-lift e₅ out)) (cell-lift e₅ out)))
 
-  pub infer-matches : {xs : List Thing} {g t : ℕ} {g′ : Context} {t′ : Term} (n : ℕ) → Cell g (context g′) xs → Cell t (term t′) xs → Matches o xs (P.infer-body c n g t) (G.infer-body d n g′ t′) (Returns term)
-  unfolding P.infer-body G.infer-body P.new-infer G.new-infer
+  pub infer-matches : {xs : List Thing} {g t : ℕ} {g′ : Context} {t′ : Term} (n : ℕ) → Cell g (context g′) xs → Cell t (term t′) xs → Matches o xs (P.infer-body c n g t) (B.infer-body d n g′ t′) (Returns term)
+  unfolding P.infer-body B.infer-body P.new-infer B.new-infer
   infer-matches n g t =
       recalling n g t (bind (find-matches n g t) λ p r _ e₁ q.
       rw (q .rule) (row-then (emitting-has (r .rule) n (q .refs) (cell-lift e₁ g) (cell-lift e₁ t) (q .type)) λ row _ e₂.

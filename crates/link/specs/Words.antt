@@ -11,6 +11,7 @@ use lib.ListN.{length, getD, length-append, length-drop}
 use lib.Dec.{ltb, nltb→le}
 use Rattle.producer.specs.declared.state.State.{State as Counts}
 use Rattle.producer.specs.Machine.{Machine}
+use Rattle.walk.specs.Refusal as Refusal
 use Rattle.walk.specs.State.{State, Row, Thing}
 use Rattle.walk.specs.Reader.{Read, got, bad, Call, read-run}
 use Rattle.walk.specs.Limits.{size-call}
@@ -153,7 +154,7 @@ pub answers-fit : (row-words cell-words answer-words : ℕ) (bytes : List ℕ) �
 unfolding run run-read
 answers-fit row-words cell-words answer-words bytes = go (ltb row-words 24 || ltb cell-words 8) (ltb 65536 (length bytes)) (read-run bytes)
   where
-    fits : (limit : ℕ) (calls : List Call) (b : Bool) → ltb answer-words (4 * length calls) ≡ b → 4 * length ((elim b as (λ _. Ran) [ true ↦ refused-run 4 0 | false ↦ played limit calls (play-all calls (R.start limit row-words cell-words)) ]) .calls) ≤ answer-words
+    fits : (limit : ℕ) (calls : List Call) (b : Bool) → ltb answer-words (4 * length calls) ≡ b → 4 * length ((elim b as (λ _. Ran) [ true ↦ refused-run Refusal.answers 0 | false ↦ played limit calls (play-all calls (R.start limit row-words cell-words)) ]) .calls) ≤ answer-words
     fits limit calls true e = omega arith
     fits limit calls false e = nltb→le answer-words (4 * length calls) (rw e tt)
 
@@ -161,7 +162,7 @@ answers-fit row-words cell-words answer-words bytes = go (ltb row-words 24 || lt
     read (bad place) = omega arith
     read (got (limit, calls) rest end) = fits limit calls (ltb answer-words (4 * length calls)) refl
 
-    go : (a b : Bool) (r : Read (ℕ × List Call)) → 4 * length ((elim a as (λ _. Ran) [ true ↦ refused-run 1 0 | false ↦ elim b as (λ _. Ran) [ true ↦ refused-run 2 0 | false ↦ run-read row-words cell-words answer-words r ] ]) .calls) ≤ answer-words
+    go : (a b : Bool) (r : Read (ℕ × List Call)) → 4 * length ((elim a as (λ _. Ran) [ true ↦ refused-run Refusal.slices 0 | false ↦ elim b as (λ _. Ran) [ true ↦ refused-run Refusal.bytes 0 | false ↦ run-read row-words cell-words answer-words r ] ]) .calls) ≤ answer-words
     go true b r = omega arith
     go false true r = omega arith
     go false false r = read r

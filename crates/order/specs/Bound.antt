@@ -1,5 +1,5 @@
--- No number passes 65,535: the guarded walk is the walk, refusal 21 is never met, and what is left is small.
--- `Within b m e Q`: from any state with b rows that fits, e does what m does, which is not refused with 21 and leaves what fits.
+-- No number passes `largest`, which is 65,535: the guarded walk is the walk, its guard never stops it, and what is left is small.
+-- `Within b m e Q`: from any state with b rows that fits, e does what m does, which is not stopped by the guard and leaves what fits.
 -- In quotes and terms: a row has no number above 33 and the rows below it, and what is handed about none above 32 and the rows.
 -- Elsewhere: dimension counts and cutoffs are at most 4,200, since each new one takes an entry; so 4,233 and the rows bound all.
 use Prim.Native.Nat.{ℕ, suc, _+_, _≤_, _<_, max}
@@ -18,13 +18,13 @@ use Rattle.walk.specs.Walk.Numbers.{lt-by, le-by, larger, comparison-body, max-
 use Rattle.walk.specs.Walk.Intervals.{itransformed, ifinish, idim-above, idim, itransform-body, interval-body}
 use Rattle.walk.specs.Walk.Transforms.{under-body, transformed, finish, tvar-above, tvar, tinterval, transform-body}
 use Rattle.walk.specs.Walk.Contexts.{dshiftctx-body, new-ctx, ctx-body, lookup-body}
-use Rattle.walk.specs.Walk.Typing.{level, pi-parts, lam-parts, path-parts, plam-body, expose-body, universe-body, check-body, as-pi, as-path, find, new-infer, infer-body}
+use Rattle.walk.specs.Walk.Typing.{level, pi-parts, lam-parts, path-parts, plam-body, expose-body, universe-body, check-body, as-pi, as-path, found, find, new-infer, infer-body}
 use Rattle.walk.specs.Walk.Equality.{beta, at-end, pbeta, ends, reduce-body, rounds, normalize-body, equal-body}
-use Rattle.walk.specs.Walk.{none-left, entered, callees}
-use Rattle.order.specs.Numbers.{interval-top, term-top, context-top, quote-top, quotes-top, judgment-top, key-top, thing-top, memory-top, At-most, at-most-nil, at-most-cons, State-bounded}
-use Rattle.order.specs.Guarded.{bump}
-use Rattle.order.specs.Guarded as G
-use Rattle.walk.specs.Sound.Parts.{level-is, pi-is, lam-is, path-is}
+use Rattle.walk.specs.Refusal as Refusal
+use Rattle.walk.specs.Walk.{none-left, entered, callees-by, one-more, callees}
+use Rattle.order.specs.Numbers.{largest, interval-top, term-top, context-top, quote-top, quotes-top, judgment-top, key-top, thing-top, memory-top, At-most, at-most-nil, at-most-cons, State-bounded}
+use Rattle.order.specs.Guarded.{beyond, bump, guarded}
+use Rattle.walk.specs.Sound.Parts.{level-is, pi-is, lam-is, path-is, plam-is}
 use Rattle.walk.specs.Demand.{At, here, there}
 use Rattle.walk.specs.Sound.Logic.{found as row-found}
 
@@ -153,7 +153,7 @@ remembered-more l (remembered-on {m = m} h hs) = remembered-on {m = m} (omega ar
 -- a state that fits, by its parts
 pub record Fitting (rows : List Row) (cells : List Thing) (memory : List Memory) (row-room limit : ℕ) : Type 0 where
   pub small : Small rows
-  pub held : Cells 65535 cells
+  pub held : Cells largest cells
   pub remembered : Remembered (length rows) memory
   pub room : length rows ≤ row-room
   pub cap : row-room ≤ 50000
@@ -162,12 +162,12 @@ pub record Fitting (rows : List Row) (cells : List Thing) (memory : List Memory)
 abbrev pub Fit : State → Type 0
 Fit s = Fitting (s .rows) (s .cells) (s .memory) (s .row-room) (s .limit)
 
--- what fits has no number above 65,535
-small-bounded : {rs : List Row} → length rs ≤ 50000 → Small rs → At-most 65535 (λ r. judgment-top (r .judgment)) rs
+-- what fits has no number above `largest`
+small-bounded : {rs : List Row} → length rs ≤ 50000 → Small rs → At-most largest (λ r. judgment-top (r .judgment)) rs
 small-bounded l no-rows = at-most-nil
 small-bounded l (row-on {r = r} {rs = rs} h hs) = let x = below-top (33 + length rs) (r .judgment) h in at-most-cons {x = r} (omega arith) (small-bounded (omega arith) hs)
 
-remembered-bounded : {b : ℕ} {ms : List Memory} → b ≤ 50000 → Remembered b ms → At-most 65535 memory-top ms
+remembered-bounded : {b : ℕ} {ms : List Memory} → b ≤ 50000 → Remembered b ms → At-most largest memory-top ms
 remembered-bounded l none-remembered = at-most-nil
 remembered-bounded l (remembered-on {m = m} h hs) = at-most-cons {x = m} (omega arith) (remembered-bounded l hs)
 
@@ -177,7 +177,7 @@ fit-bounded s f = let x = f .room in let y = f .cap in record { rows = small-bou
 -- what an outcome leaves
 pub data After {A : Type 0} (b : ℕ) (Q : A → ℕ → Type 0) : Outcome A → Type 0 where
   fine : {a : A} {s : State} → b ≤ length (s .rows) → Fit s → Q a (length (s .rows)) → After b Q (done a s)
-  stopped : {n : ℕ} {s : State} → (n ≡ 21 → ⊥) → b ≤ length (s .rows) → Fit s → After b Q (refused n s)
+  stopped : {n : ℕ} {s : State} → (n ≡ beyond → ⊥) → b ≤ length (s .rows) → Fit s → After b Q (refused n s)
 
 later : {A : Type 0} {b c : ℕ} {Q : A → ℕ → Type 0} {o : Outcome A} → b ≤ c → After c Q o → After b Q o
 later e (fine {s = s} f g q) = fine {s = s} (omega arith) g q
@@ -202,19 +202,9 @@ module _ {A B : Type 0} {b : ℕ} {Q : A → ℕ → Type 0} {R : B → ℕ → 
   unfolding _>>=_
   bind h k = record { holds = λ s e g. go-on-after (h .holds s e g) k; same = λ s e g. rw (h .same s e g) (go-on-same (h .holds s e g) k) }
 
--- a bind inside another
-go-on-assoc : {A B C : Type 0} (o : Outcome A) (f : A → M B) (g : B → M C) → go-on (go-on o f) g ≡ go-on o (λ a s. go-on (f a s) g)
-unfolding go-on
-go-on-assoc (done a s) f g = refl
-go-on-assoc (refused n s) f g = refl
-
-pub bindl : {A B C : Type 0} {b : ℕ} {Q : A → ℕ → Type 0} {R : C → ℕ → Type 0} {m m′ : M A} {f : A → M C} (f′ : A → M B) (g : B → M C) → Within b m m′ Q → ((a : A) (c : ℕ) → b ≤ c → Q a c → Within c (f a) (f′ a >>= g) R) → Within b (m >>= f) ((m′ >>= f′) >>= g) R
-unfolding _>>=_
-bindl {m′ = m′} f′ g h k = record { holds = λ s e i. bind h k .holds s e i; same = λ s e i. go-on-assoc (m′ s) f′ g ∙ bind h k .same s e i }
-
-pub refusing : {A : Type 0} {b : ℕ} {Q : A → ℕ → Type 0} (n : ℕ) → (n ≡ 21 → ⊥) → Within b (refuse n) (refuse n) Q
+pub refusing : {A : Type 0} {b : ℕ} {Q : A → ℕ → Type 0} {n : ℕ} → (n ≡ beyond → ⊥) → Within b (refuse n) (refuse n) Q
 unfolding refuse
-refusing n z = record { holds = λ s e g. stopped z e g; same = λ s e g. refl }
+refusing z = record { holds = λ s e g. stopped z e g; same = λ s e g. refl }
 
 pub giving : {A : Type 0} {b : ℕ} {Q : A → ℕ → Type 0} (a : A) → ((c : ℕ) → b ≤ c → Q a c) → Within b (pure a) (pure a) Q
 unfolding pure
@@ -242,36 +232,33 @@ emitted {b} j rule refs l = record { holds = λ s e g. go s e g (row-of j (s .ro
     row : Row
     row = record { rule = rule; refs = refs; judgment = j }
 
-    go : (s : State) → b ≤ length (s .rows) → Fit s → (o : Option ℕ) → row-of j (s .rows) ≡ o → (d : Dec (length (s .rows) < s .row-room)) → After b (λ _ c. Below (32 + c) j) ((from o get pure or (if d then push row else refuse 18)) s)
+    go : (s : State) → b ≤ length (s .rows) → Fit s → (o : Option ℕ) → row-of j (s .rows) ≡ o → (d : Dec (length (s .rows) < s .row-room)) → After b (λ _ c. Below (32 + c) j) ((from o get pure or (if d then push row else refuse Refusal.rows)) s)
     go s e g (some n) q d = fine e g (small-at (row-found j (s .rows) n q) (g .small))
     go s e g none q (yes h) = fine {s = with-row row s} (omega arith) (record { small = row-on {r = row} {rs = s .rows} (below-more (33 + b) (33 + length (s .rows)) j (omega arith) l) (g .small); held = g .held; remembered = remembered-more {b = length (s .rows)} {c = suc (length (s .rows))} (omega arith) (g .remembered); room = omega arith; cap = g .cap; low = g .low }) (below-more (33 + b) (32 + suc (length (s .rows))) j (omega arith) l)
-    go s e g none q (no h) = stopped {n = 18} (λ z. omega arith) e g
+    go s e g none q (no h) = stopped {n = Refusal.rows} (λ z. omega arith) e g
 
--- a number that was handed about has one more
-pub bumped-small : {A : Type 0} {b : ℕ} {Q : A → ℕ → Type 0} {e : M A} (f : ℕ → M A) (n : ℕ) → n < 65535 → Within b (f (suc n)) e Q → Within b (bump n >>= f) e Q
-unfolding bump if_then_else_ pure refuse _>>=_ go-on
-bumped-small {b = b} {Q = Q} {e = m} f n l h = record { holds = λ s e g. after s (decLt n 65535) (h .holds s e g); same = λ s e g. h .same s e g ∙ alike s (decLt n 65535) }
+-- the guard lets pass what was handed about
+passed : {P A : Type 0} {b : ℕ} {Q : A → ℕ → Type 0} {x e : M A} (d : Dec P) (y : M A) → (P → Within b x e Q) → ((P → ⊥) → ⊥) → Within b (if d then x else y) e Q
+unfolding if_then_else_
+passed (yes h) y f g = f h
+passed (no h) y f g = absurd (g h)
+
+bumped : {b : ℕ} (k : ℕ) → k ≤ 4200 + b → Within b (bump k) (one-more k) (λ k′ _. k′ ≡ suc k)
+unfolding bump one-more
+bumped {b} k l = record { holds = λ s e g. at s e g .holds s e g; same = λ s e g. at s e g .same s e g }
   where
-    after : (s : State) (d : Dec (n < 65535)) → After b Q (f (suc n) s) → After b Q (go-on ((if d then pure (suc n) else refuse 21) s) f)
-    after s (yes h) a = a
-    after s (no h) a = absurd (h l)
-
-    alike : (s : State) (d : Dec (n < 65535)) → f (suc n) s ≡ go-on ((if d then pure (suc n) else refuse 21) s) f
-    alike s (yes h) = refl
-    alike s (no h) = absurd (h l)
-
-pub bumped : {A : Type 0} {b : ℕ} {Q : A → ℕ → Type 0} {e : M A} (f : ℕ → M A) (n : ℕ) → n ≤ 32 + b → Within b (f (suc n)) e Q → Within b (bump n >>= f) e Q
-bumped f n l h = record { holds = λ s e g. let x = g .room in let y = g .cap in bumped-small f n (omega arith) h .holds s e g; same = λ s e g. let x = g .room in let y = g .cap in bumped-small f n (omega arith) h .same s e g }
+    at : (s : State) → b ≤ length (s .rows) → Fit s → Within b (bump k) (one-more k) (λ k′ _. k′ ≡ suc k)
+    at s e g = let x = g .room in let y = g .cap in passed (decLt k _) _ (λ _. giving (suc k) λ _ _. refl) (λ z. z (omega arith))
 
 -- cells
 counting-one : {b : ℕ} (x : Thing) → thing-top x ≤ 4233 + b → Within b (count x) (count x) (λ _ _. Unit {0})
 unfolding count with-cell
 counting-one {b} x l = record { holds = λ s e g. go s e g (among x (s .cells)) (decLt (length (s .cells)) (s .cell-room)); same = λ s e g. refl }
   where
-    go : (s : State) → b ≤ length (s .rows) → Fit s → (t : Bool) → (d : Dec (length (s .cells) < s .cell-room)) → After {A = Unit {0}} b (λ _ _. Unit {0}) (elim t as (λ _. Outcome (Unit {0})) [ true ↦ done tt s | false ↦ elim d as (λ _. Outcome (Unit {0})) [ yes h ↦ done tt (with-cell x s) | no h ↦ refused 20 s ] ])
+    go : (s : State) → b ≤ length (s .rows) → Fit s → (t : Bool) → (d : Dec (length (s .cells) < s .cell-room)) → After {A = Unit {0}} b (λ _ _. Unit {0}) (elim t as (λ _. Outcome (Unit {0})) [ true ↦ done tt s | false ↦ elim d as (λ _. Outcome (Unit {0})) [ yes h ↦ done tt (with-cell x s) | no h ↦ refused Refusal.cells s ] ])
     go s e g true d = fine e g tt
     go s e g false (yes h) = let y = g .room in let z = g .cap in fine e (record { small = g .small; held = at-most-cons {x = x} (omega arith) (g .held); remembered = g .remembered; room = g .room; cap = g .cap; low = g .low }) tt
-    go s e g false (no h) = stopped {n = 20} (λ z. omega arith) e g
+    go s e g false (no h) = stopped {n = Refusal.cells} (λ z. omega arith) e g
 
 counting-below : {b m : ℕ} {xs : List Thing} → m ≤ 4233 + b → Cells m xs → Within b (count-all xs) (count-all xs) (λ _ _. Unit {0})
 unfolding count-all
@@ -341,8 +328,8 @@ convert {b = b} {Q = Q} {m = m} {m′ = m′} h = record { holds = λ s e g. go 
     inner : Within b (converted m) (converted m′) Q
     inner = record { holds = λ s e g. ended-after (h .holds (with-conversions (s .conversions + 1) s) e g); same = λ s e g. ap ended (h .same (with-conversions (s .conversions + 1) s) e g) }
 
-    go : (s : State) → Within b (if decLt (s .conversions) 32 then converted m else refuse 16) (if decLt (s .conversions) 32 then converted m′ else refuse 16) Q
-    go s = branch (decLt (s .conversions) 32) (λ _. inner) (λ _. refusing 16 (λ z. omega arith))
+    go : (s : State) → Within b (if decLt (s .conversions) 32 then converted m else refuse Refusal.conversions) (if decLt (s .conversions) 32 then converted m′ else refuse Refusal.conversions) Q
+    go s = branch (decLt (s .conversions) 32) (λ _. inner) (λ _. refusing (λ z. omega arith))
 
 pub entering : {A : Type 0} {b : ℕ} {Q : A → ℕ → Type 0} {m m′ : M A} (left : ℕ) {xs : List Thing} → Cells (32 + b) xs → ((c : ℕ) → b ≤ c → Within c m m′ Q) → Within b (enter left xs m) (enter left xs m′) Q
 unfolding enter note with-deepest
@@ -405,6 +392,7 @@ pub record Bounds (n : ℕ) (c c′ : Callees) : Type 0 where
   pub interval : {b : ℕ} (d : ℕ) (r : Interval) → (d + n ≤ 4200) × (interval-top r ≤ 32 + b) → Within b (c .interval d r) (c′ .interval d r) Nothing
   pub comparison : {b : ℕ} (m k : ℕ) (strict : Bool) → (m ≤ 4233 + b) × (k ≤ 4233 + b) → Within b (c .comparison m k strict) (c′ .comparison m k strict) Nothing
   pub max : {b : ℕ} (m k : ℕ) → (m ≤ 4233 + b) × (k ≤ 4233 + b) → Within b (c .max m k) (c′ .max m k) Nothing
+  pub more : {b : ℕ} (k : ℕ) → k ≤ 4200 + b → Within b (c .more k) (c′ .more k) (λ k′ _. k′ ≡ suc k)
 
 emits : {b : ℕ} (j : Judgment) (rule : ℕ) (refs : List ℕ) → Below (33 + b) j → Within b (emit rule refs j) (emit rule refs j) Nothing
 emits j rule refs l = record { holds = λ s e g. forget (emitted j rule refs l .holds s e g); same = λ s e g. refl }
@@ -465,16 +453,7 @@ path-top : (t : Term) (m : Term × Term × Term) → path-parts t ≡ some m →
 path-top t m e = rw (path-is t m e) (omega arith)
 
 plam-top : (t m : Term) → plam-body t ≡ some m → term-top m ≤ term-top t
-plam-top (PathLam a b) m e = let q : b ≡ m = cc in rw (← q) (omega arith)
-plam-top (Universe l) m e = let z : _≡_ {A = ℕ} 0 1 = cc in absurd (omega arith)
-plam-top (Var n) m e = let z : _≡_ {A = ℕ} 0 1 = cc in absurd (omega arith)
-plam-top Nat m e = let z : _≡_ {A = ℕ} 0 1 = cc in absurd (omega arith)
-plam-top Zero m e = let z : _≡_ {A = ℕ} 0 1 = cc in absurd (omega arith)
-plam-top (Pi a b) m e = let z : _≡_ {A = ℕ} 0 1 = cc in absurd (omega arith)
-plam-top (Lam a b) m e = let z : _≡_ {A = ℕ} 0 1 = cc in absurd (omega arith)
-plam-top (App a b) m e = let z : _≡_ {A = ℕ} 0 1 = cc in absurd (omega arith)
-plam-top (Path a b c) m e = let z : _≡_ {A = ℕ} 0 1 = cc in absurd (omega arith)
-plam-top (PathApp a r) m e = let z : _≡_ {A = ℕ} 0 1 = cc in absurd (omega arith)
+plam-top t m e = rw (plam-is t m e) (omega arith)
 
 -- a type that was found: one more than what was handed about only where it is a universe
 abbrev pub Ready : Term → ℕ → Type 0
@@ -489,44 +468,27 @@ level-ready l h = (h, λ c e q. q)
 ready-more : {b c : ℕ} (ty : Term) → Ready ty b → b ≤ c → Ready ty c
 ready-more ty r l = let x = r .0 in (omega arith, λ d e q. r .1 d (omega arith) q)
 
--- the walk counts a type that was found after `find`, the guarded one in it
-unfoldable counted : Found → M Found
-counted f = count-all (of-term (f .type)) >>= λ _. pure f
-
-found-at : {b : ℕ} (ty : Term) (refs : List ℕ) (rule : ℕ) → Ready ty b → Within b (G.found ty refs rule) (G.found ty refs rule) (λ o b. Ready (o .type) b)
-unfolding G.found
-found-at ty refs rule r = let x = r .0 in bind (counting (term-cells ty (omega arith))) λ x₁ c₁ e₁ h₁. giving _ λ c e. ready-more ty r (omega arith)
-
-found-same : (ty : Term) (refs : List ℕ) (rule : ℕ) (s : State) → (pure (record { type = ty; refs = refs; rule = rule }) >>= counted) s ≡ G.found ty refs rule s
-unfolding G.found counted pure _>>=_ go-on
-found-same ty refs rule s = refl
-
-counted-first : {A : Type 0} (o : Outcome Found) (k : Found → M A) → go-on o (λ f s. go-on (count-all (of-term (f .type)) s) (λ _. k f)) ≡ go-on (go-on o counted) k
-unfolding go-on counted _>>=_ pure
-counted-first (refused n s) k = refl
-counted-first (done f s) k = go (count-all (of-term (f .type)) s)
-  where
-    go : (o : Outcome (Unit {0})) → go-on o (λ _. k f) ≡ go-on (go-on o (λ _ s. done f s)) k
-    go (done w s) = refl
-    go (refused n s) = refl
+founds : {b : ℕ} (ty : Term) (refs : List ℕ) (rule : ℕ) → Ready ty b → Within b (found ty refs rule) (found ty refs rule) (λ o b. Ready (o .type) b)
+unfolding found
+founds ty refs rule r = let x = r .0 in bind (counting (term-cells ty (omega arith))) λ x₁ c₁ e₁ h₁. giving _ λ c e. ready-more ty r (omega arith)
 
 module _ (n : ℕ) (c c′ : Callees) (B : Bounds n c c′) where
   lt-by-within : {b : ℕ} (m k : ℕ) → (m ≤ 4233 + b) × (k ≤ 4233 + b) → Within b (lt-by c m k) (lt-by c′ m k) Nothing
   unfolding lt-by
-  lt-by-within m ℕ.zero h = refusing 17 (λ z. omega arith)
+  lt-by-within m ℕ.zero h = refusing (λ z. omega arith)
   lt-by-within ℕ.zero (ℕ.suc k) h = emits _ _ _ (omega arith)
   lt-by-within (ℕ.suc m) (ℕ.suc k) h = bind (B .comparison m k true (omega arith)) λ x₁ c₁ e₁ h₁. emits _ _ _ (omega arith)
 
   le-by-within : {b : ℕ} (m k : ℕ) → (m ≤ 4233 + b) × (k ≤ 4233 + b) → Within b (le-by c m k) (le-by c′ m k) Nothing
   unfolding le-by
   le-by-within ℕ.zero k h = emits _ _ _ (omega arith)
-  le-by-within (ℕ.suc m) ℕ.zero h = refusing 17 (λ z. omega arith)
+  le-by-within (ℕ.suc m) ℕ.zero h = refusing (λ z. omega arith)
   le-by-within (ℕ.suc m) (ℕ.suc k) h = bind (B .comparison m k false (omega arith)) λ x₁ c₁ e₁ h₁. emits _ _ _ (omega arith)
 
   comparison-within : {b : ℕ} (m k : ℕ) (strict : Bool) → (m ≤ 4233 + b) × (k ≤ 4233 + b) → Within b (comparison-body c m k strict) (comparison-body c′ m k strict) Nothing
   unfolding comparison-body
-  comparison-within m k true h = branch (decLt m k) (λ _. lt-by-within m k (omega arith)) (λ _. refusing 17 (λ z. omega arith))
-  comparison-within m k false h = branch (decLe m k) (λ _. le-by-within m k (omega arith)) (λ _. refusing 17 (λ z. omega arith))
+  comparison-within m k true h = branch (decLt m k) (λ _. lt-by-within m k (omega arith)) (λ _. refusing (λ z. omega arith))
+  comparison-within m k false h = branch (decLe m k) (λ _. le-by-within m k (omega arith)) (λ _. refusing (λ z. omega arith))
 
   max-within : {b : ℕ} (m k : ℕ) → (m ≤ 4233 + b) × (k ≤ 4233 + b) → Within b (max-body c m k) (max-body c′ m k) Nothing
   unfolding max-body
@@ -545,15 +507,15 @@ module _ (n : ℕ) (c c′ : Callees) (B : Bounds n c c′) where
 
   idim-above-within : {b : ℕ} (i k : ℕ) (q : Interval) → (k ≤ 4200) × (i ≤ 32 + b) × (interval-top q ≤ 32 + b) → Within b (idim-above c i k q) (idim-above c′ i k q) Small-interval
   unfolding idim-above
-  idim-above-within ℕ.zero k q h = refusing 17 (λ z. omega arith)
+  idim-above-within ℕ.zero k q h = refusing (λ z. omega arith)
   idim-above-within (ℕ.suc i) k q h = bind (B .comparison k (suc i) true (omega arith)) λ x₁ c₁ e₁ h₁. ifinished _ _ _ _ _ (omega arith)
 
-  idim-within : {b : ℕ} (i : ℕ) (op : IOp) → (iop-cutoff op ≤ 4200) × (i ≤ 32 + b) × (iop-top op ≤ 32 + b) → Within b (G.idim c i op) (idim c′ i op) Small-interval
-  unfolding idim G.idim
+  idim-within : {b : ℕ} (i : ℕ) (op : IOp) → (iop-cutoff op ≤ 4200) × (i ≤ 32 + b) × (iop-top op ≤ 32 + b) → Within b (idim c i op) (idim c′ i op) Small-interval
+  unfolding idim
   idim-within i (IShift k) h =
       branch (decLt i k)
       (λ _. bind (B .comparison i k true (omega arith)) λ x₁ c₁ e₁ h₁. ifinished _ _ _ _ _ (omega arith))
-      (λ _. bind (B .comparison k i false (omega arith)) λ x₁ c₁ e₁ h₁. bumped _ i (omega arith) (ifinished _ _ _ _ _ (omega arith)))
+      (λ _. bind (B .comparison k i false (omega arith)) λ x₁ c₁ e₁ h₁. bind (B .more i (omega arith)) λ x₂ c₂ e₂ h₂. ifinished _ _ _ _ _ (omega arith))
   idim-within i (ISubst k q) h =
       branch (ℕ-discrete i k)
       (λ _. ifinished _ _ _ _ _ (omega arith))
@@ -561,8 +523,8 @@ module _ (n : ℕ) (c c′ : Callees) (B : Bounds n c c′) where
       (λ _. bind (B .comparison i k true (omega arith)) λ x₁ c₁ e₁ h₁. ifinished _ _ _ _ _ (omega arith))
       (λ _. idim-above-within i k q (omega arith)))
 
-  itransform-within : {b : ℕ} (r : Interval) (op : IOp) → (iop-cutoff op + suc n ≤ 4200) × (interval-top r ≤ 32 + b) × (iop-top op ≤ 32 + b) → Within b (G.itransform-body c r op) (itransform-body c′ r op) Small-interval
-  unfolding itransform-body G.itransform-body
+  itransform-within : {b : ℕ} (r : Interval) (op : IOp) → (iop-cutoff op + suc n ≤ 4200) × (interval-top r ≤ 32 + b) × (iop-top op ≤ 32 + b) → Within b (itransform-body c r op) (itransform-body c′ r op) Small-interval
+  unfolding itransform-body
   itransform-within I0 op h = ifinished _ _ _ _ _ (omega arith)
   itransform-within I1 op h = ifinished _ _ _ _ _ (omega arith)
   itransform-within (Dim i) op h = idim-within i op (omega arith)
@@ -572,28 +534,28 @@ module _ (n : ℕ) (c c′ : Callees) (B : Bounds n c c′) where
 
   -- terms
 
-  under-within : {b : ℕ} (op : Op) (dimension : Bool) → (op-cutoff op + suc n ≤ 4200) × (op-top op ≤ 32 + b) → Within b (G.under-body c op dimension) (under-body c′ op dimension) (λ o b. (op-top (o .0) ≤ 32 + b) × (op-cutoff (o .0) ≤ suc (op-cutoff op)))
-  unfolding under-body G.under-body
-  under-within (Shift k) false h = bumped-small _ k (omega arith) (giving _ λ c e. omega arith)
+  under-within : {b : ℕ} (op : Op) (dimension : Bool) → (op-cutoff op + suc n ≤ 4200) × (op-top op ≤ 32 + b) → Within b (under-body c op dimension) (under-body c′ op dimension) (λ o b. (op-top (o .0) ≤ 32 + b) × (op-cutoff (o .0) ≤ suc (op-cutoff op)))
+  unfolding under-body
+  under-within (Shift k) false h = bind (B .more k (omega arith)) λ x₂ c₂ e₂ h₂. giving _ λ c e. omega arith
   under-within (Shift k) true h = giving _ λ c e. omega arith
-  under-within (Subst k r) false h = bind (B .transform r (Shift 0) (omega arith)) λ x₁ c₁ e₁ h₁. bumped-small _ k (omega arith) (giving _ λ c e. omega arith)
+  under-within (Subst k r) false h = bind (B .transform r (Shift 0) (omega arith)) λ x₁ c₁ e₁ h₁. bind (B .more k (omega arith)) λ x₂ c₂ e₂ h₂. giving _ λ c e. omega arith
   under-within (Subst k r) true h = bind (B .transform r (DShift 0) (omega arith)) λ x₁ c₁ e₁ h₁. giving _ λ c e. omega arith
   under-within (DShift k) false h = giving _ λ c e. omega arith
-  under-within (DShift k) true h = bumped-small _ k (omega arith) (giving _ λ c e. omega arith)
+  under-within (DShift k) true h = bind (B .more k (omega arith)) λ x₂ c₂ e₂ h₂. giving _ λ c e. omega arith
   under-within (DSubst k r) false h = giving _ λ c e. omega arith
-  under-within (DSubst k r) true h = bind (B .itransform r (IShift 0) (omega arith)) λ x₁ c₁ e₁ h₁. bumped-small _ k (omega arith) (giving _ λ c e. omega arith)
+  under-within (DSubst k r) true h = bind (B .itransform r (IShift 0) (omega arith)) λ x₁ c₁ e₁ h₁. bind (B .more k (omega arith)) λ x₂ c₂ e₂ h₂. giving _ λ c e. omega arith
 
   tvar-above-within : {b : ℕ} (i k : ℕ) (r : Term) → (k ≤ 4200) × (i ≤ 32 + b) × (term-top r ≤ 32 + b) → Within b (tvar-above c i k r) (tvar-above c′ i k r) Small-term
   unfolding tvar-above
-  tvar-above-within ℕ.zero k r h = refusing 17 (λ z. omega arith)
+  tvar-above-within ℕ.zero k r h = refusing (λ z. omega arith)
   tvar-above-within (ℕ.suc i) k r h = bind (B .comparison k (suc i) true (omega arith)) λ x₁ c₁ e₁ h₁. finished _ _ _ _ _ (omega arith)
 
-  tvar-within : {b : ℕ} (i : ℕ) (op : Op) → (op-cutoff op ≤ 4200) × (i ≤ 32 + b) × (op-top op ≤ 32 + b) → Within b (G.tvar c i op) (tvar c′ i op) Small-term
-  unfolding tvar G.tvar
+  tvar-within : {b : ℕ} (i : ℕ) (op : Op) → (op-cutoff op ≤ 4200) × (i ≤ 32 + b) × (op-top op ≤ 32 + b) → Within b (tvar c i op) (tvar c′ i op) Small-term
+  unfolding tvar
   tvar-within i (Shift k) h =
       branch (decLt i k)
       (λ _. bind (B .comparison i k true (omega arith)) λ x₁ c₁ e₁ h₁. finished _ _ _ _ _ (omega arith))
-      (λ _. bind (B .comparison k i false (omega arith)) λ x₁ c₁ e₁ h₁. bumped _ i (omega arith) (finished-var _ _ _ _ _ (omega arith)))
+      (λ _. bind (B .comparison k i false (omega arith)) λ x₁ c₁ e₁ h₁. bind (B .more i (omega arith)) λ x₂ c₂ e₂ h₂. finished-var _ _ _ _ _ (omega arith))
   tvar-within i (Subst k r) h =
       branch (ℕ-discrete i k)
       (λ _. finished _ _ _ _ _ (omega arith))
@@ -610,8 +572,8 @@ module _ (n : ℕ) (c c′ : Callees) (B : Bounds n c c′) where
   tinterval-within r (DShift k) h = bind (B .itransform r (IShift k) (omega arith)) λ x₁ c₁ e₁ h₁. giving _ λ c e. omega arith
   tinterval-within r (DSubst k q) h = bind (B .itransform r (ISubst k q) (omega arith)) λ x₁ c₁ e₁ h₁. giving _ λ c e. omega arith
 
-  transform-within : {b : ℕ} (t : Term) (op : Op) → (op-cutoff op + suc n ≤ 4200) × (term-top t ≤ 32 + b) × (op-top op ≤ 32 + b) → Within b (G.transform-body c t op) (transform-body c′ t op) Small-term
-  unfolding transform-body G.transform-body
+  transform-within : {b : ℕ} (t : Term) (op : Op) → (op-cutoff op + suc n ≤ 4200) × (term-top t ≤ 32 + b) × (op-top op ≤ 32 + b) → Within b (transform-body c t op) (transform-body c′ t op) Small-term
+  unfolding transform-body
   transform-within (Universe l) op h = finished _ _ _ _ _ (omega arith)
   transform-within (Var i) op h = tvar-within i op (omega arith)
   transform-within Nat op h = finished _ _ _ _ _ (omega arith)
@@ -640,7 +602,7 @@ module _ (n : ℕ) (c c′ : Callees) (B : Bounds n c c′) where
 
   lookup-within : {b : ℕ} (g : Context) (i : ℕ) → (suc n ≤ 4200) × (i ≤ 32 + b) × (context-top g ≤ 32 + b) → Within b (lookup-body c g i) (lookup-body c′ g i) Small-term
   unfolding lookup-body
-  lookup-within Nil i h = refusing 8 (λ z. omega arith)
+  lookup-within Nil i h = refusing (λ z. omega arith)
   lookup-within (Cons a g) ℕ.zero h = bind (B .transform a (Shift 0) (omega arith)) λ x₁ c₁ e₁ h₁. bind (counting (term-cells (x₁ .0) (omega arith))) λ x₂ c₂ e₂ h₂. let p = quotes-below (Cons a g) in let q = quote-below (x₁ .0) in bind (emits _ _ _ (omega arith)) λ x₃ c₃ e₃ h₃. giving _ λ c e. omega arith
   lookup-within (Cons a g) (ℕ.suc i) h = bind (B .lookup g i (omega arith)) λ x₁ c₁ e₁ h₁. bind (B .transform (x₁ .0) (Shift 0) (omega arith)) λ x₂ c₂ e₂ h₂. bind (counting (term-cells (x₂ .0) (omega arith))) λ x₃ c₃ e₃ h₃. let p = quotes-below (Cons a g) in let q = quote-below (x₂ .0) in bind (emits _ _ _ (omega arith)) λ x₄ c₄ e₄ h₄. giving _ λ c e. omega arith
 
@@ -662,7 +624,7 @@ module _ (n : ℕ) (c c′ : Callees) (B : Bounds n c c′) where
       cases (level (x₁ .0))
       (λ l q. let p = level-top (x₁ .0) l q in giving _ λ c e. omega arith)
       (λ _. convert (bind (B .expose d g t (x₁ .0) (x₁ .1) (omega arith)) λ x₂ c₂ e₂ h₂.
-      cases (level (x₂ .0)) (λ l q. let p = level-top (x₂ .0) l q in giving _ λ c e. omega arith) (λ _. refusing 11 (λ z. omega arith))))
+      cases (level (x₂ .0)) (λ l q. let p = level-top (x₂ .0) l q in giving _ λ c e. omega arith) (λ _. refusing (λ z. omega arith))))
 
   check-within : {b : ℕ} (d : ℕ) (g : Context) (t y : Term) → (d + suc n ≤ 4200) × (context-top g ≤ 32 + b) × (term-top t ≤ 32 + b) × (term-top y ≤ 32 + b) → Within b (check-body c d g t y) (check-body c′ d g t y) Nothing
   unfolding check-body
@@ -673,69 +635,57 @@ module _ (n : ℕ) (c c′ : Callees) (B : Bounds n c c′) where
       (λ _. convert (bind (B .universe d g (x₁ .0) (omega arith)) λ x₂ c₂ e₂ h₂. bind (B .universe d g y (omega arith)) λ x₃ c₃ e₃ h₃.
       branch (ℕ-discrete (x₂ .0) (x₃ .0))
       (λ _. bind (B .equal d g (x₁ .0) y (Universe (x₂ .0)) (omega arith)) λ x₄ c₄ e₄ h₄. let p = quotes-below g in let q = quote-below t in let r = quote-below y in emits _ _ _ (omega arith))
-      (λ _. refusing 12 (λ z. omega arith))))
+      (λ _. refusing (λ z. omega arith))))
 
   as-pi-within : {b : ℕ} (d : ℕ) (g : Context) (t y : Term) (row : ℕ) → (d + suc n ≤ 4200) × (context-top g ≤ 32 + b) × (term-top t ≤ 32 + b) × (term-top y ≤ 32 + b) → Within b (as-pi c d g t y row) (as-pi c′ d g t y row) (λ o b. (term-top (o .0) ≤ 32 + b) × (term-top (o .1) ≤ 32 + b))
   unfolding as-pi
   as-pi-within d g t y row h =
       cases (pi-parts y)
       (λ ab q. let p = pi-top y ab q in giving _ λ c e. omega arith)
-      (λ _. bind (convert (B .expose d g t y row (omega arith))) λ x₁ c₁ e₁ h₁. cases (pi-parts (x₁ .0)) (λ ab q. let p = pi-top (x₁ .0) ab q in giving _ λ c e. omega arith) (λ _. refusing 9 (λ z. omega arith)))
+      (λ _. bind (convert (B .expose d g t y row (omega arith))) λ x₁ c₁ e₁ h₁. cases (pi-parts (x₁ .0)) (λ ab q. let p = pi-top (x₁ .0) ab q in giving _ λ c e. omega arith) (λ _. refusing (λ z. omega arith)))
 
   as-path-within : {b : ℕ} (d : ℕ) (g : Context) (t y : Term) (row : ℕ) → (d + suc n ≤ 4200) × (context-top g ≤ 32 + b) × (term-top t ≤ 32 + b) × (term-top y ≤ 32 + b) → Within b (as-path c d g t y row) (as-path c′ d g t y row) (λ o b. (term-top (o .0) ≤ 32 + b) × (term-top (o .1) ≤ 32 + b) × (term-top (o .2) ≤ 32 + b))
   unfolding as-path
   as-path-within d g t y row h =
       cases (path-parts y)
       (λ ab q. let p = path-top y ab q in giving _ λ c e. omega arith)
-      (λ _. bind (convert (B .expose d g t y row (omega arith))) λ x₁ c₁ e₁ h₁. cases (path-parts (x₁ .0)) (λ ab q. let p = path-top (x₁ .0) ab q in giving _ λ c e. omega arith) (λ _. refusing 10 (λ z. omega arith)))
+      (λ _. bind (convert (B .expose d g t y row (omega arith))) λ x₁ c₁ e₁ h₁. cases (path-parts (x₁ .0)) (λ ab q. let p = path-top (x₁ .0) ab q in giving _ λ c e. omega arith) (λ _. refusing (λ z. omega arith)))
 
-  found-within : {b : ℕ} (ty : Term) (refs : List ℕ) (rule : ℕ) → Ready ty b → Within b (G.found ty refs rule) (pure (record { type = ty; refs = refs; rule = rule }) >>= counted) (λ o b. Ready (o .type) b)
-  found-within {b} ty refs rule r = record { holds = λ s e g. at .holds s e g; same = λ s e g. found-same ty refs rule s }
-    where
-      at : Within b (G.found ty refs rule) (G.found ty refs rule) (λ o b. Ready (o .type) b)
-      at = found-at ty refs rule r
-
-  find-within : {b : ℕ} (d : ℕ) (g : Context) (t : Term) → (d + suc n ≤ 4200) × (context-top g ≤ 32 + b) × (term-top t ≤ 32 + b) → Within b (G.find c d g t) (find c′ d g t >>= counted) (λ o b. Ready (o .type) b)
-  unfolding find G.find
-  find-within d g (Universe l) h = bindl _ _ (B .ctx d g (omega arith)) λ x₁ c₁ e₁ h₁. bumped _ l (omega arith) (found-within (Universe (suc l)) _ _ (level-ready (suc l) (omega arith)))
-  find-within d g Nat h = bindl _ _ (B .ctx d g (omega arith)) λ x₁ c₁ e₁ h₁. found-within (Universe 0) _ _ (kept-ready (Universe 0) (omega arith))
-  find-within d g Zero h = bindl _ _ (B .ctx d g (omega arith)) λ x₁ c₁ e₁ h₁. found-within Nat _ _ (kept-ready Nat (omega arith))
-  find-within d g (Var k) h = bindl _ _ (B .ctx d g (omega arith)) λ x₁ c₁ e₁ h₁. bindl _ _ (B .lookup g k (omega arith)) λ x₂ c₂ e₂ h₂. found-within (x₂ .0) _ _ (kept-ready (x₂ .0) (omega arith))
-  find-within d g (Pi s t) h = bindl _ _ (B .universe d g s (omega arith)) λ x₁ c₁ e₁ h₁. bindl _ _ (B .universe d (Cons s g) t (omega arith)) λ x₂ c₂ e₂ h₂. bindl _ _ (B .max (x₁ .0) (x₂ .0) (omega arith)) λ x₃ c₃ e₃ h₃. let p = larger-top (x₁ .0) (x₂ .0) (32 + c₃) (omega arith) in found-within (Universe (larger (x₁ .0) (x₂ .0))) _ _ (kept-ready (Universe (larger (x₁ .0) (x₂ .0))) (omega arith))
-  find-within d g (Lam s t) h = bindl _ _ (B .universe d g s (omega arith)) λ x₁ c₁ e₁ h₁. bindl _ _ (B .infer d (Cons s g) t (omega arith)) λ x₂ c₂ e₂ h₂. bindl _ _ (B .universe d (Cons s g) (x₂ .0) (omega arith)) λ x₃ c₃ e₃ h₃. found-within (Pi s (x₂ .0)) _ _ (kept-ready (Pi s (x₂ .0)) (omega arith))
+  find-within : {b : ℕ} (d : ℕ) (g : Context) (t : Term) → (d + suc n ≤ 4200) × (context-top g ≤ 32 + b) × (term-top t ≤ 32 + b) → Within b (find c d g t) (find c′ d g t) (λ o b. Ready (o .type) b)
+  unfolding find
+  find-within d g (Universe l) h = bind (B .ctx d g (omega arith)) λ x₁ c₁ e₁ h₁. bind (B .more l (omega arith)) λ x₂ c₂ e₂ h₂. founds (Universe x₂) _ _ (level-ready x₂ (omega arith))
+  find-within d g Nat h = bind (B .ctx d g (omega arith)) λ x₁ c₁ e₁ h₁. founds (Universe 0) _ _ (kept-ready (Universe 0) (omega arith))
+  find-within d g Zero h = bind (B .ctx d g (omega arith)) λ x₁ c₁ e₁ h₁. founds Nat _ _ (kept-ready Nat (omega arith))
+  find-within d g (Var k) h = bind (B .ctx d g (omega arith)) λ x₁ c₁ e₁ h₁. bind (B .lookup g k (omega arith)) λ x₂ c₂ e₂ h₂. founds (x₂ .0) _ _ (kept-ready (x₂ .0) (omega arith))
+  find-within d g (Pi s t) h = bind (B .universe d g s (omega arith)) λ x₁ c₁ e₁ h₁. bind (B .universe d (Cons s g) t (omega arith)) λ x₂ c₂ e₂ h₂. bind (B .max (x₁ .0) (x₂ .0) (omega arith)) λ x₃ c₃ e₃ h₃. let p = larger-top (x₁ .0) (x₂ .0) (32 + c₃) (omega arith) in founds (Universe (larger (x₁ .0) (x₂ .0))) _ _ (kept-ready (Universe (larger (x₁ .0) (x₂ .0))) (omega arith))
+  find-within d g (Lam s t) h = bind (B .universe d g s (omega arith)) λ x₁ c₁ e₁ h₁. bind (B .infer d (Cons s g) t (omega arith)) λ x₂ c₂ e₂ h₂. bind (B .universe d (Cons s g) (x₂ .0) (omega arith)) λ x₃ c₃ e₃ h₃. founds (Pi s (x₂ .0)) _ _ (kept-ready (Pi s (x₂ .0)) (omega arith))
   find-within d g (App s t) h =
-      bindl _ _ (B .infer d g s (omega arith)) λ x₁ c₁ e₁ h₁. bindl _ _ (as-pi-within d g s (x₁ .0) (x₁ .1) (omega arith)) λ x₂ c₂ e₂ h₂.
-      bindl _ _ (B .check d g t (x₂ .0) (omega arith)) λ x₃ c₃ e₃ h₃. bindl _ _ (B .transform (x₂ .1) (Subst 0 t) (omega arith)) λ x₄ c₄ e₄ h₄. found-within (x₄ .0) _ _ (kept-ready (x₄ .0) (omega arith))
+      bind (B .infer d g s (omega arith)) λ x₁ c₁ e₁ h₁. bind (as-pi-within d g s (x₁ .0) (x₁ .1) (omega arith)) λ x₂ c₂ e₂ h₂.
+      bind (B .check d g t (x₂ .0) (omega arith)) λ x₃ c₃ e₃ h₃. bind (B .transform (x₂ .1) (Subst 0 t) (omega arith)) λ x₄ c₄ e₄ h₄. founds (x₄ .0) _ _ (kept-ready (x₄ .0) (omega arith))
   find-within d g (Path s t r) h =
-      bindl _ _ (B .ctx d g (omega arith)) λ x₁ c₁ e₁ h₁. bindl _ _ (B .dshiftctx g (omega arith)) λ x₂ c₂ e₂ h₂. bumped-small _ d (omega arith) (bindl _ _ (B .universe (suc d) (x₂ .0) s (omega arith)) λ x₄ c₄ e₄ h₄.
-      bindl _ _ (B .transform s (DSubst 0 I0) (omega arith)) λ x₅ c₅ e₅ h₅. bindl _ _ (B .transform s (DSubst 0 I1) (omega arith)) λ x₆ c₆ e₆ h₆.
-      bindl _ _ (B .check d g t (x₅ .0) (omega arith)) λ x₇ c₇ e₇ h₇. bindl _ _ (B .check d g r (x₆ .0) (omega arith)) λ x₈ c₈ e₈ h₈. found-within (Universe (x₄ .0)) _ _ (kept-ready (Universe (x₄ .0)) (omega arith)))
+      bind (B .ctx d g (omega arith)) λ x₁ c₁ e₁ h₁. bind (B .dshiftctx g (omega arith)) λ x₂ c₂ e₂ h₂. bind (B .more d (omega arith)) λ x₃ c₃ e₃ h₃. bind (B .universe x₃ (x₂ .0) s (omega arith)) λ x₄ c₄ e₄ h₄.
+      bind (B .transform s (DSubst 0 I0) (omega arith)) λ x₅ c₅ e₅ h₅. bind (B .transform s (DSubst 0 I1) (omega arith)) λ x₆ c₆ e₆ h₆.
+      bind (B .check d g t (x₅ .0) (omega arith)) λ x₇ c₇ e₇ h₇. bind (B .check d g r (x₆ .0) (omega arith)) λ x₈ c₈ e₈ h₈. founds (Universe (x₄ .0)) _ _ (kept-ready (Universe (x₄ .0)) (omega arith))
   find-within d g (PathLam s t) h =
-      bindl _ _ (B .ctx d g (omega arith)) λ x₀ c₀ e₀ h₀. bindl _ _ (B .dshiftctx g (omega arith)) λ y₀ d₀ f₀ g₀. bumped-small _ d (omega arith) (bindl _ _ (B .universe (suc d) (y₀ .0) s (omega arith)) λ x₂ c₂ e₂ h₂. bindl _ _ (B .check (suc d) (y₀ .0) t s (omega arith)) λ x₃ c₃ e₃ h₃.
-      bindl _ _ (B .transform s (DSubst 0 I0) (omega arith)) λ x₄ c₄ e₄ h₄. bindl _ _ (B .transform s (DSubst 0 I1) (omega arith)) λ x₅ c₅ e₅ h₅.
-      bindl _ _ (B .transform t (DSubst 0 I0) (omega arith)) λ x₆ c₆ e₆ h₆. bindl _ _ (B .transform t (DSubst 0 I1) (omega arith)) λ x₇ c₇ e₇ h₇.
-      bindl _ _ (B .check d g (x₆ .0) (x₄ .0) (omega arith)) λ x₈ c₈ e₈ h₈. bindl _ _ (B .check d g (x₇ .0) (x₅ .0) (omega arith)) λ x₉ c₉ e₉ h₉. found-within (Path s (x₆ .0) (x₇ .0)) _ _ (kept-ready (Path s (x₆ .0) (x₇ .0)) (omega arith)))
+      bind (B .ctx d g (omega arith)) λ x₀ c₀ e₀ h₀. bind (B .dshiftctx g (omega arith)) λ y₀ d₀ f₀ g₀. bind (B .more d (omega arith)) λ x₁ c₁ e₁ h₁. bind (B .universe x₁ (y₀ .0) s (omega arith)) λ x₂ c₂ e₂ h₂. bind (B .check x₁ (y₀ .0) t s (omega arith)) λ x₃ c₃ e₃ h₃.
+      bind (B .transform s (DSubst 0 I0) (omega arith)) λ x₄ c₄ e₄ h₄. bind (B .transform s (DSubst 0 I1) (omega arith)) λ x₅ c₅ e₅ h₅.
+      bind (B .transform t (DSubst 0 I0) (omega arith)) λ x₆ c₆ e₆ h₆. bind (B .transform t (DSubst 0 I1) (omega arith)) λ x₇ c₇ e₇ h₇.
+      bind (B .check d g (x₆ .0) (x₄ .0) (omega arith)) λ x₈ c₈ e₈ h₈. bind (B .check d g (x₇ .0) (x₅ .0) (omega arith)) λ x₉ c₉ e₉ h₉. founds (Path s (x₆ .0) (x₇ .0)) _ _ (kept-ready (Path s (x₆ .0) (x₇ .0)) (omega arith))
   find-within d g (PathApp s r) h =
-      bindl _ _ (B .infer d g s (omega arith)) λ x₁ c₁ e₁ h₁. bindl _ _ (as-path-within d g s (x₁ .0) (x₁ .1) (omega arith)) λ x₂ c₂ e₂ h₂.
-      bindl _ _ (B .interval d r (omega arith)) λ x₃ c₃ e₃ h₃. bindl _ _ (B .transform (x₂ .0) (DSubst 0 r) (omega arith)) λ x₄ c₄ e₄ h₄. bindl _ _ (B .universe d g (x₄ .0) (omega arith)) λ x₅ c₅ e₅ h₅. found-within (x₄ .0) _ _ (kept-ready (x₄ .0) (omega arith))
+      bind (B .infer d g s (omega arith)) λ x₁ c₁ e₁ h₁. bind (as-path-within d g s (x₁ .0) (x₁ .1) (omega arith)) λ x₂ c₂ e₂ h₂.
+      bind (B .interval d r (omega arith)) λ x₃ c₃ e₃ h₃. bind (B .transform (x₂ .0) (DSubst 0 r) (omega arith)) λ x₄ c₄ e₄ h₄. bind (B .universe d g (x₄ .0) (omega arith)) λ x₅ c₅ e₅ h₅. founds (x₄ .0) _ _ (kept-ready (x₄ .0) (omega arith))
 
-  new-infer-within : {b : ℕ} (d : ℕ) (g : Context) (t : Term) → (d + suc n ≤ 4200) × (context-top g ≤ 32 + b) × (term-top t ≤ 32 + b) → Within b (G.new-infer c d g t) (new-infer c′ d g t) Small-term
-  unfolding new-infer G.new-infer _>>=_
-  new-infer-within {b} d g t h = record { holds = λ s e f. at .holds s e f; same = λ s e f. counted-first (find c′ d g t s) _ ∙ at .same s e f }
-    where
-      rest : Found → M (Term × ℕ)
-      rest it = emit (it .rule) (it .refs) (has d (quotes g) (quote t) (quote (it .type))) >>= λ row. remember (key d g t) (it .type) row >>= λ _. pure (it .type, row)
+  new-infer-within : {b : ℕ} (d : ℕ) (g : Context) (t : Term) → (d + suc n ≤ 4200) × (context-top g ≤ 32 + b) × (term-top t ≤ 32 + b) → Within b (new-infer c d g t) (new-infer c′ d g t) Small-term
+  unfolding new-infer
+  new-infer-within d g t h =
+      bind (find-within d g t (omega arith)) λ x₁ c₁ e₁ h₁.
+      let p = quotes-below g in let q = quote-below t in let r = quote-below (x₁ .type) in let w = h₁ .0 in
+      bind (emitted (has d (quotes g) (quote t) (quote (x₁ .type))) _ _ (omega arith)) λ x₂ c₂ e₂ h₂.
+      let y : term-top (x₁ .type) ≤ 32 + c₂ = h₁ .1 c₂ e₂ (omega arith) in
+      bind (remembering (key d g t) (x₁ .type) x₂ (omega arith)) λ x₃ c₃ e₃ h₃. giving _ λ c e. omega arith
 
-      at : Within b (G.find c d g t >>= rest) ((find c′ d g t >>= counted) >>= rest) Small-term
-      at =
-          bind (find-within d g t (omega arith)) λ x₁ c₁ e₁ h₁.
-          let p = quotes-below g in let q = quote-below t in let r = quote-below (x₁ .type) in let w = h₁ .0 in
-          bind (emitted (has d (quotes g) (quote t) (quote (x₁ .type))) _ _ (omega arith)) λ x₂ c₂ e₂ h₂.
-          let y : term-top (x₁ .type) ≤ 32 + c₂ = h₁ .1 c₂ e₂ (omega arith) in
-          bind (remembering (key d g t) (x₁ .type) x₂ (omega arith)) λ x₃ c₃ e₃ h₃. giving _ λ c e. omega arith
-
-  infer-within : {b : ℕ} (d : ℕ) (g : Context) (t : Term) → (d + suc n ≤ 4200) × (context-top g ≤ 32 + b) × (term-top t ≤ 32 + b) → Within b (G.infer-body c d g t) (infer-body c′ d g t) Small-term
-  unfolding infer-body G.infer-body
+  infer-within : {b : ℕ} (d : ℕ) (g : Context) (t : Term) → (d + suc n ≤ 4200) × (context-top g ≤ 32 + b) × (term-top t ≤ 32 + b) → Within b (infer-body c d g t) (infer-body c′ d g t) Small-term
+  unfolding infer-body
   infer-within d g t h = recalling (key d g t) (new-infer-within d g t (omega arith))
 
   -- equality
@@ -789,7 +739,7 @@ module _ (n : ℕ) (c c′ : Callees) (B : Bounds n c c′) where
 
   rounds-within : {b : ℕ} (left d : ℕ) (g : Context) (t ty now : Term) (x : ℕ) → (d + suc n ≤ 4200) × (context-top g ≤ 32 + b) × (term-top t ≤ 32 + b) × (term-top ty ≤ 32 + b) × (term-top now ≤ 32 + b) → Within b (rounds left c d g t ty now x) (rounds left c′ d g t ty now x) Small-term
   unfolding rounds
-  rounds-within ℕ.zero d g t ty now x h = bind (B .reduce d g now (omega arith)) λ x₁ c₁ e₁ h₁. cases x₁ (λ _ _. refusing 15 (λ z. omega arith)) (λ _. giving _ λ c e. omega arith)
+  rounds-within ℕ.zero d g t ty now x h = bind (B .reduce d g now (omega arith)) λ x₁ c₁ e₁ h₁. cases x₁ (λ _ _. refusing (λ z. omega arith)) (λ _. giving _ λ c e. omega arith)
   rounds-within (ℕ.suc left) d g t ty now x h =
       bind (B .reduce d g now (omega arith)) λ x₁ c₁ e₁ h₁.
       cases x₁
@@ -800,7 +750,7 @@ module _ (n : ℕ) (c c′ : Callees) (B : Bounds n c c′) where
       (λ _. bind (B .check d g (step .term) ty (omega arith)) λ x₂ c₂ e₂ h₂.
       let a = quotes-below g in let p = quote-below t in let u = quote-below (step .term) in let v = quote-below ty in
       bind (emits _ _ _ (omega arith)) λ x₃ c₃ e₃ h₃. rounds-within left d g t ty (step .term) x₃ (omega arith))
-      (λ _. refusing 14 (λ z. omega arith)))
+      (λ _. refusing (λ z. omega arith)))
       (λ _. giving _ λ c e. omega arith)
 
   normalize-within : {b : ℕ} (d : ℕ) (g : Context) (t y : Term) → (d + suc n ≤ 4200) × (context-top g ≤ 32 + b) × (term-top t ≤ 32 + b) × (term-top y ≤ 32 + b) → Within b (normalize-body c d g t y) (normalize-body c′ d g t y) Small-term
@@ -817,12 +767,12 @@ module _ (n : ℕ) (c c′ : Callees) (B : Bounds n c c′) where
       (λ _. bind (B .normalize d g s y (omega arith)) λ x₃ c₃ e₃ h₃. bind (B .normalize d g t y (omega arith)) λ x₄ c₄ e₄ h₄.
       branch (quote? (quote (x₃ .0)) (quote (x₄ .0)))
       (λ _. let w = quote-below (x₄ .0) in bind (emits _ _ _ (omega arith)) λ x₅ c₅ e₅ h₅. emits _ _ _ (omega arith))
-      (λ _. refusing 13 (λ z. omega arith)))
+      (λ _. refusing (λ z. omega arith)))
 
-none-within : {A : Type 0} {b : ℕ} {Q : A → ℕ → Type 0} → Within b (refuse 19) (refuse 19) Q
-none-within = refusing 19 (λ z. omega arith)
+none-within : {A : Type 0} {b : ℕ} {Q : A → ℕ → Type 0} → Within b (refuse Refusal.nesting) (refuse Refusal.nesting) Q
+none-within = refusing (λ z. omega arith)
 
-bounds-none : Bounds 0 none-left none-left
+bounds-none : Bounds 0 (none-left bump) (none-left one-more)
 unfolding none-left
 bounds-none = record {
   ctx = λ d g h. none-within;
@@ -841,10 +791,11 @@ bounds-none = record {
   interval = λ d r h. none-within;
   comparison = λ m k strict h. none-within;
   max = λ m k h. none-within;
+  more = bumped;
 }
 
-bounds-entered : (n : ℕ) (c c′ : Callees) → suc n ≤ 4200 → Bounds n c c′ → Bounds (suc n) (G.entered n c) (entered n c′)
-unfolding entered G.entered
+bounds-entered : (n : ℕ) (c c′ : Callees) → suc n ≤ 4200 → Bounds n c c′ → Bounds (suc n) (entered n c) (entered n c′)
+unfolding entered
 bounds-entered n c c′ l B = record {
   ctx = λ d g h. entering n (context-cells g (h .1)) λ b e. ctx-within n c c′ B d g (omega arith);
   infer = λ d g t h. entering n (context-cells g (h .1) +++ term-cells t (h .2)) λ b e. infer-within n c c′ B d g t (omega arith);
@@ -862,10 +813,11 @@ bounds-entered n c c′ l B = record {
   interval = λ d r h. entering n (interval-cells r (h .1)) λ b e. interval-within n c c′ B d r (omega arith);
   comparison = λ m k strict h. entering n at-most-nil λ b e. comparison-within n c c′ B m k strict (omega arith);
   max = λ m k h. entering n at-most-nil λ b e. max-within n c c′ B m k (omega arith);
+  more = B .more;
 }
 
--- with n entries left, of 4,096, and at most 33 dimensions: 21 is never met
-pub bounds : (n : ℕ) → n ≤ 4200 → Bounds n (G.callees n) (callees n)
-unfolding callees G.callees
+-- with n entries left, of 4,096, and at most 33 dimensions: the guarded walk is the walk
+pub bounds : (n : ℕ) → n ≤ 4200 → Bounds n (guarded n) (callees n)
+unfolding callees callees-by
 bounds ℕ.zero l = bounds-none
-bounds (ℕ.suc n) l = bounds-entered n (G.callees n) (callees n) l (bounds n (omega arith))
+bounds (ℕ.suc n) l = bounds-entered n (guarded n) (callees n) l (bounds n (omega arith))

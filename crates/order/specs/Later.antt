@@ -10,15 +10,16 @@ use native.Mathlib.Omega.{arith}
 use lib.ListN.{length}
 use Rattle.walk.specs.Syntax.{Interval, I0, I1, Dim, Neg, Meet, Join, Term, Universe, Var, Nat, Zero, Pi, Lam, App, Path, PathLam, PathApp, Context, Nil, Cons}
 use Rattle.walk.specs.Judgment.{Judgment}
+use Rattle.walk.specs.Refusal as Refusal
 use Rattle.walk.specs.State.{Row, Key, Thing, inference, Memory, State, Outcome, done, refused, M, go-on, looking, _>>=_, pure, refuse, if_then_else_, from_get_or_, row-of, with-row, push, emit, among, with-cell, count, count-all, with-memory, store, remember, with-conversions, ended, converted, converting, with-deepest, note, enter}
 use Rattle.walk.specs.Walk.Reference.{Op, Shift, Subst, DShift, DSubst, IOp, IShift, ISubst, Callees}
 use Rattle.walk.specs.Walk.Numbers.{lt-by, le-by, comparison-body, max-body}
 use Rattle.walk.specs.Walk.Intervals.{ifinish, idim-above, idim, itransform-body, interval-body}
 use Rattle.walk.specs.Walk.Transforms.{under-body, finish, tvar-above, tvar, tinterval, transform-body}
 use Rattle.walk.specs.Walk.Contexts.{dshiftctx-body, new-ctx, ctx-body, lookup-body}
-use Rattle.walk.specs.Walk.Typing.{expose-body, universe-body, check-body, as-pi, as-path, find, new-infer, infer-body}
+use Rattle.walk.specs.Walk.Typing.{expose-body, universe-body, check-body, as-pi, as-path, found, find, new-infer, infer-body}
 use Rattle.walk.specs.Walk.Equality.{beta, at-end, pbeta, ends, reduce-body, rounds, normalize-body, equal-body}
-use Rattle.walk.specs.Walk.{none-left, entered, callees}
+use Rattle.walk.specs.Walk.{none-left, entered, callees-by, one-more, callees}
 use Rattle.walk.specs.Demand.{Extends, same, more}
 use Rattle.walk.specs.Sound.Logic.{extends-trans}
 
@@ -118,7 +119,7 @@ pub emits : (rule : ℕ) (refs : List ℕ) (j : Judgment) → Leads (emit rule r
 unfolding emit looking pure push with-row refuse if_then_else_ from_get_or_
 emits rule refs j = record { leads = λ s. go s (row-of j (s .rows)) (decLt (length (s .rows)) (s .row-room)) }
   where
-    go : (s : State) (o : Option ℕ) (d : Dec (length (s .rows) < s .row-room)) → Later s (left ((from o get pure or (if d then push (record { rule = rule; refs = refs; judgment = j }) else refuse 18)) s))
+    go : (s : State) (o : Option ℕ) (d : Dec (length (s .rows) < s .row-room)) → Later s (left ((from o get pure or (if d then push (record { rule = rule; refs = refs; judgment = j }) else refuse Refusal.rows)) s))
     go s (some n) d = later-refl s
     go s none (yes h) = adds s (s .deepest) (more same) no-longer no-longer (λ _. h) (λ h. h) (omega arith) (λ h. h)
     go s none (no h) = later-refl s
@@ -127,7 +128,7 @@ pub counts : (x : Thing) → Leads (count x)
 unfolding count with-cell
 counts x = record { leads = λ s. go s (among x (s .cells)) (decLt (length (s .cells)) (s .cell-room)) }
   where
-    go : (s : State) (b : Bool) (d : Dec (length (s .cells) < s .cell-room)) → Later s (left {A = Unit {0}} (elim b as (λ _. Outcome (Unit {0})) [ true ↦ done tt s | false ↦ elim d as (λ _. Outcome (Unit {0})) [ yes h ↦ done tt (with-cell x s) | no h ↦ refused 20 s ] ]))
+    go : (s : State) (b : Bool) (d : Dec (length (s .cells) < s .cell-room)) → Later s (left {A = Unit {0}} (elim b as (λ _. Outcome (Unit {0})) [ true ↦ done tt s | false ↦ elim d as (λ _. Outcome (Unit {0})) [ yes h ↦ done tt (with-cell x s) | no h ↦ refused Refusal.cells s ] ]))
     go s true d = later-refl s
     go s false (yes h) = adds s (s .deepest) same (one-longer no-longer) no-longer (λ h. h) (λ _. h) (omega arith) (λ h. h)
     go s false (no h) = later-refl s
@@ -159,7 +160,7 @@ converts {A} {m} h = record { leads = λ s. go s (m (with-conversions (s .conver
 
 pub converting-leads : {A : Type 0} {m : M A} → Leads m → Leads (converting m)
 unfolding converting
-converting-leads h = looks λ s. branches (decLt (s .conversions) 32) (converts h) (refuses 16)
+converting-leads h = looks λ s. branches (decLt (s .conversions) 32) (converts h) (refuses Refusal.conversions)
 
 notes : (n : ℕ) → Leads (note n)
 unfolding note with-deepest
@@ -188,6 +189,7 @@ pub record All-lead (c : Callees) : Type 0 where
   pub interval : (d : ℕ) (r : Interval) → Leads (c .interval d r)
   pub comparison : (m n : ℕ) (strict : Bool) → Leads (c .comparison m n strict)
   pub max : (m n : ℕ) → Leads (c .max m n)
+  pub more : (n : ℕ) → Leads (c .more n)
 
 ruleset combinators = (binds, gives, refuses, branches, gets, looks, emits, counts-all, remembers, converting-leads)
 
@@ -231,7 +233,7 @@ module _ (c : Callees) (L : All-lead c) where
 
   idim-leads : (n : ℕ) (op : IOp) → Leads (idim c n op)
   unfolding idim ifinish
-  idim-leads n (IShift k) = search (combinators, L .comparison) depth 10
+  idim-leads n (IShift k) = search (combinators, L .comparison, L .more) depth 10
   idim-leads n (ISubst k q) = search (combinators, L .comparison, idim-above-leads) depth 10
 
   itransform-leads : (r : Interval) (op : IOp) → Leads (itransform-body c r op)
@@ -245,14 +247,14 @@ module _ (c : Callees) (L : All-lead c) where
 
   under-leads : (op : Op) (dimension : Bool) → Leads (under-body c op dimension)
   unfolding under-body
-  under-leads (Shift k) false = search combinators
+  under-leads (Shift k) false = search (combinators, L .more)
   under-leads (Shift k) true = search combinators
-  under-leads (Subst k r) false = search (combinators, L .transform)
+  under-leads (Subst k r) false = search (combinators, L .transform, L .more)
   under-leads (Subst k r) true = search (combinators, L .transform)
   under-leads (DShift k) false = search combinators
-  under-leads (DShift k) true = search combinators
+  under-leads (DShift k) true = search (combinators, L .more)
   under-leads (DSubst k r) false = search combinators
-  under-leads (DSubst k r) true = search (combinators, L .itransform)
+  under-leads (DSubst k r) true = search (combinators, L .itransform, L .more)
 
   tvar-above-leads : (n k : ℕ) (r : Term) → Leads (tvar-above c n k r)
   unfolding tvar-above finish
@@ -261,7 +263,7 @@ module _ (c : Callees) (L : All-lead c) where
 
   tvar-leads : (n : ℕ) (op : Op) → Leads (tvar c n op)
   unfolding tvar finish
-  tvar-leads n (Shift k) = search (combinators, L .comparison) depth 10
+  tvar-leads n (Shift k) = search (combinators, L .comparison, L .more) depth 10
   tvar-leads n (Subst k r) = search (combinators, L .comparison, tvar-above-leads) depth 10
   tvar-leads n (DShift k) = search combinators
   tvar-leads n (DSubst k r) = search combinators
@@ -326,18 +328,22 @@ module _ (c : Callees) (L : All-lead c) where
   unfolding as-path
   as-path-leads d g p ty row = search (combinators, L .expose) depth 10
 
+  founds : (ty : Term) (refs : List ℕ) (rule : ℕ) → Leads (found ty refs rule)
+  unfolding found
+  founds ty refs rule = search combinators
+
   find-leads : (d : ℕ) (g : Context) (t : Term) → Leads (find c d g t)
   unfolding find
-  find-leads d g (Universe l) = search (combinators, L .ctx)
-  find-leads d g Nat = search (combinators, L .ctx)
-  find-leads d g Zero = search (combinators, L .ctx)
-  find-leads d g (Var n) = search (combinators, L .ctx, L .lookup)
-  find-leads d g (Pi a b) = search (combinators, L .universe, L .max)
-  find-leads d g (Lam a b) = search (combinators, L .universe, L .infer)
-  find-leads d g (App f a) = search (combinators, L .infer, as-pi-leads, L .check, L .transform)
-  find-leads d g (Path a b e) = search (combinators, L .ctx, L .dshiftctx, L .universe, L .check, L .transform) depth 20
-  find-leads d g (PathLam a b) = search (combinators, L .ctx, L .dshiftctx, L .universe, L .check, L .transform) depth 20
-  find-leads d g (PathApp p r) = search (combinators, L .infer, as-path-leads, L .interval, L .transform, L .universe) depth 10
+  find-leads d g (Universe l) = search (combinators, founds, L .ctx, L .more)
+  find-leads d g Nat = search (combinators, founds, L .ctx)
+  find-leads d g Zero = search (combinators, founds, L .ctx)
+  find-leads d g (Var n) = search (combinators, founds, L .ctx, L .lookup)
+  find-leads d g (Pi a b) = search (combinators, founds, L .universe, L .max)
+  find-leads d g (Lam a b) = search (combinators, founds, L .universe, L .infer)
+  find-leads d g (App f a) = search (combinators, founds, L .infer, as-pi-leads, L .check, L .transform)
+  find-leads d g (Path a b e) = search (combinators, founds, L .ctx, L .dshiftctx, L .more, L .universe, L .check, L .transform) depth 20
+  find-leads d g (PathLam a b) = search (combinators, founds, L .ctx, L .dshiftctx, L .more, L .universe, L .check, L .transform) depth 20
+  find-leads d g (PathApp p r) = search (combinators, founds, L .infer, as-path-leads, L .interval, L .transform, L .universe) depth 10
 
   infer-leads : (d : ℕ) (g : Context) (t : Term) → Leads (infer-body c d g t)
   unfolding infer-body new-infer
@@ -390,16 +396,16 @@ module _ (c : Callees) (L : All-lead c) where
   unfolding equal-body
   equal-leads d g a b ty = search (combinators, L .check, L .normalize) depth 10
 
-none-lead : All-lead none-left
-unfolding none-left
-none-lead = search refuses
+none-lead : All-lead (none-left one-more)
+unfolding none-left one-more
+none-lead = search (refuses, gives)
 
 entered-lead : (n : ℕ) (c : Callees) → All-lead c → All-lead (entered n c)
 unfolding entered
-entered-lead n c L = search (enters, ctx-leads, infer-leads, universe-leads, check-leads, expose-leads, normalize-leads, equal-leads, reduce-leads, lookup-leads, dshiftctx-leads, transform-leads, itransform-leads, under-leads, interval-leads, comparison-leads, max-leads)
+entered-lead n c L = search (L .more, enters, ctx-leads, infer-leads, universe-leads, check-leads, expose-leads, normalize-leads, equal-leads, reduce-leads, lookup-leads, dshiftctx-leads, transform-leads, itransform-leads, under-leads, interval-leads, comparison-leads, max-leads)
 
 -- the sixteen functions, with n entries left
 pub leads : (n : ℕ) → All-lead (callees n)
-unfolding callees
+unfolding callees callees-by
 leads ℕ.zero = none-lead
 leads (ℕ.suc n) = entered-lead n (callees n) (leads n)

@@ -1,4 +1,4 @@
--- No run answers 21, and no number in what a run leaves or answers passes 65,535.
+-- No number in what a run leaves or answers passes `largest`.
 use Prim.Native.Nat.{ℕ, _+_, _≤_}
 use mathlib.Core.Path.{_≡_, refl}
 use mathlib.Core.List.{List, [], _∷_}
@@ -10,21 +10,20 @@ use Rattle.walk.specs.Walk.{callees}
 use Rattle.walk.specs.Reader.{Code, c-context, c-universe, c-infer, c-check, c-normalise, c-equal, Call}
 use Rattle.walk.specs.Limits.{Sized, fits, scope-over, size-over, index-over, size-call}
 use Rattle.walk.specs.Run.{Result, Answer, answered, scope-of, nth, walk, play-sized, play, play-all, start, run, Ran}
-use Rattle.order.specs.Numbers.{context-top, result-top, At-most, at-most-nil, at-most-cons, Numbers-bounded}
+use Rattle.order.specs.Numbers.{largest, context-top, result-top, At-most, at-most-nil, at-most-cons, Numbers-bounded}
 use Rattle.order.specs.Bound.{Fit, no-rows, none-remembered, fit-bounded, After, fine, stopped, Within, bounds}
 use Rattle.order.specs.Sent.{Lows, nth-low, scope-low, let-in}
 use Rattle.order.specs.Cases.{run-cases}
 
--- an answer that is not 21, with a small result, and a state that fits
+-- an answer with a small result, and a state that fits
 pub record Fair (out : Answer × State) : Type 0 where
-  pub not-21 : out .0 .number ≡ 21 → ⊥
-  pub result : result-top (out .0 .result) ≤ 65535
+  pub result : result-top (out .0 .result) ≤ largest
   pub fit : Fit (out .1)
 
 fair : {A : Type 0} {b : ℕ} {P : A → ℕ → Type 0} {o : Outcome A} (row : A → ℕ) (result : A → Result) → ((a : A) (c : ℕ) → P a c → result-top (result a) ≤ 32 + c) → After b P o → Fair (answered row result o)
 unfolding answered
-fair row result k (fine {a = a} {s = s} e f q) = let x = k a (length (s .rows)) q in let y = f .room in let z = f .cap in record { not-21 = λ z. omega arith; result = omega arith; fit = f }
-fair row result k (stopped z e f) = record { not-21 = z; result = omega arith; fit = f }
+fair row result k (fine {a = a} {s = s} e f q) = let x = k a (length (s .rows)) q in let y = f .room in let z = f .cap in record { result = omega arith; fit = f }
+fair row result k (stopped z e f) = record { result = omega arith; fit = f }
 
 -- what the guarded walk leaves, the walk leaves
 plainly : {A : Type 0} {P : A → ℕ → Type 0} {g d : M A} {s : State} → Within (length (s .rows)) g d P → Fit s → After (length (s .rows)) P (d s)
@@ -44,52 +43,35 @@ unfolding play play-sized with-deepest
 play-fair call s f = go (size-call call) refl
   where
     go : (z : Sized) → size-call call ≡ z → Fair (play-sized z call s)
-    go scope-over e = record { not-21 = λ z. omega arith; result = omega arith; fit = f }
-    go size-over e = record { not-21 = λ z. omega arith; result = omega arith; fit = f }
-    go index-over e = record { not-21 = λ z. omega arith; result = omega arith; fit = f }
+    go scope-over e = record { result = omega arith; fit = f }
+    go size-over e = record { result = omega arith; fit = f }
+    go index-over e = record { result = omega arith; fit = f }
     go (fits n) e =
         let h = let-in call n e in
         let d = h .dims in
         let l = f .low in
         walk-fair (s .limit) (call .code) (call .dims) (scope-of Nil (call .types)) (call .terms) (with-deepest 0 s) (omega arith) (scope-low Nil (call .types) (omega arith) (h .types)) (h .terms) f
 
-pub data None-21 : List Answer → Type 0 where
-  no-answer : None-21 []
-  not-21-on : {a : Answer} {as′ : List Answer} → (a .number ≡ 21 → ⊥) → None-21 as′ → None-21 (a ∷ as′)
-
 -- the same of calls in order
 pub record All-fair (out : List Answer × State) : Type 0 where
-  pub not-21 : None-21 (out .0)
-  pub results : At-most 65535 (λ a. result-top (a .result)) (out .0)
+  pub results : At-most largest (λ a. result-top (a .result)) (out .0)
   pub fit : Fit (out .1)
 
 pub play-all-fair : (calls : List Call) (s : State) → Fit s → All-fair (play-all calls s)
 unfolding play-all
-play-all-fair [] s f = record { not-21 = no-answer; results = at-most-nil; fit = f }
+play-all-fair [] s f = record { results = at-most-nil; fit = f }
 play-all-fair (call ∷ calls) s f =
     let h = play-fair call s f in
     let k = play-all-fair calls (play call s .1) (h .fit) in
-    record { not-21 = not-21-on (h .not-21) (k .not-21); results = at-most-cons {x = play call s .0} (h .result) (k .results); fit = k .fit }
+    record { results = at-most-cons {x = play call s .0} (h .result) (k .results); fit = k .fit }
 
 pub start-fits : (limit rows cells : ℕ) → limit ≤ 4096 → Fit (start limit rows cells)
 unfolding start
 start-fits limit rows cells l = record { small = no-rows; held = at-most-nil; remembered = none-remembered; room = omega arith; cap = omega arith; low = l }
 
--- and of a run
-pub record Ran-fair (ran : Ran) : Type 0 where
-  pub not-21 : None-21 (ran .answers)
-  pub numbers : Numbers-bounded ran
-
-pub ran-fair : (row-words cell-words answer-words : ℕ) (bytes : List ℕ) → Ran-fair (run row-words cell-words answer-words bytes)
-ran-fair row-words cell-words answer-words bytes =
-    run-cases row-words cell-words answer-words bytes (λ ran. Ran-fair ran)
-    (λ n place. record { not-21 = no-answer; numbers = record { last = fit-bounded (start 0 0 0) (start-fits 0 0 0 (omega arith)); answers = at-most-nil } })
-    (λ limit calls r. let h = play-all-fair calls (start limit row-words cell-words) (start-fits limit row-words cell-words (r .most)) in record { not-21 = h .not-21; numbers = record { last = fit-bounded _ (h .fit); answers = h .results } })
-
--- a run answers no call with 21
-pub run-fair : (row-words cell-words answer-words : ℕ) (bytes : List ℕ) → None-21 (run row-words cell-words answer-words bytes .answers)
-run-fair row-words cell-words answer-words bytes = ran-fair row-words cell-words answer-words bytes .not-21
-
--- no number that a run leaves or answers passes 65,535
+-- no number that a run leaves or answers passes `largest`
 pub run-numbers : (row-words cell-words answer-words : ℕ) (bytes : List ℕ) → Numbers-bounded (run row-words cell-words answer-words bytes)
-run-numbers row-words cell-words answer-words bytes = ran-fair row-words cell-words answer-words bytes .numbers
+run-numbers row-words cell-words answer-words bytes =
+    run-cases row-words cell-words answer-words bytes (λ ran. Numbers-bounded ran)
+    (λ n place. record { last = fit-bounded (start 0 0 0) (start-fits 0 0 0 (omega arith)); answers = at-most-nil })
+    (λ limit calls r. let h = play-all-fair calls (start limit row-words cell-words) (start-fits limit row-words cell-words (r .most)) in record { last = fit-bounded _ (h .fit); answers = h .results })

@@ -1,10 +1,14 @@
--- The largest number that stands in a term, a judgment or a cell, and what it means that a run leaves none above 65,535.
+-- The largest number that stands in a term, a judgment or a cell, and what it means that a run leaves none above `largest`.
 use Prim.Native.Nat.{ℕ, _≤_, max}
 use mathlib.Core.List.{List, [], _∷_}
 use Rattle.walk.specs.Syntax.{Interval, I0, I1, Dim, Neg, Meet, Join, Term, Universe, Var, Nat, Zero, Pi, Lam, App, Path, PathLam, PathApp, Context, Nil, Cons, Quote, u, v, nat, zero, pi, lam, app, path, plam, papp, Quotes, nil, cons}
 use Rattle.walk.specs.Judgment.{Judgment, ctx, dshiftctx, lookup, lt, le, interval, ishift, isubst, shift, subst, dshift, dsubst, has, eq}
 use Rattle.walk.specs.State.{Key, key, Thing, term, context, inference, Memory, State}
 use Rattle.walk.specs.Run.{Result, no-result, a-level, a-term, Ran}
+
+-- What no number passes.
+abbrev pub largest : ℕ
+largest = 65535
 
 -- A dimension of an interval; an index, a level or a dimension of a term, its annotations included. 0 where there is none.
 abbrev pub interval-top : Interval → ℕ
@@ -92,13 +96,13 @@ pub data At-most {A : Type 0} (m : ℕ) (top : A → ℕ) : List A → Type 0 wh
   at-most-nil : At-most m top []
   at-most-cons : {x : A} {xs : List A} → top x ≤ m → At-most m top xs → At-most m top (x ∷ xs)
 
--- No number in a state's rows, cells or memory passes 65,535.
+-- No number in a state's rows, cells or memory passes `largest`.
 pub record State-bounded (s : State) : Type 0 where
-  pub rows : At-most 65535 (λ r. judgment-top (r .judgment)) (s .rows)
-  pub cells : At-most 65535 thing-top (s .cells)
-  pub memory : At-most 65535 memory-top (s .memory)
+  pub rows : At-most largest (λ r. judgment-top (r .judgment)) (s .rows)
+  pub cells : At-most largest thing-top (s .cells)
+  pub memory : At-most largest memory-top (s .memory)
 
--- No number in what a run leaves or answers passes 65,535.
+-- No number in what a run leaves or answers passes `largest`.
 pub record Numbers-bounded (ran : Ran) : Type 0 where
   pub last : State-bounded (ran .last)
-  pub answers : At-most 65535 (λ a. result-top (a .result)) (ran .answers)
+  pub answers : At-most largest (λ a. result-top (a .result)) (ran .answers)

@@ -1,6 +1,6 @@
--- With which numbers the functions below typing are refused, from any state. A transform, and what it calls, is refused where a row,
--- an entry or a cell is wanting (18, 19, 20) and for nothing else: the 17s that stand in their bodies are never met. `interval` is
--- refused with 17 where a dimension is not below the dimension count, `lookup` with 8 where the context has no such variable.
+-- How the functions below typing are refused, from any state. A transform, and what it calls, is refused where a row, an entry or a
+-- cell is wanting, and for nothing else: the other refusals that stand in their bodies are never met. `interval` is refused besides
+-- where a dimension is not below the dimension count, `lookup` where the context has no such variable.
 use Prim.Native.Nat.{ℕ, suc, _≤_, _<_}
 use mathlib.Core.List.{List, [], _∷_}
 use mathlib.Core.Option.{Option, none, some}
@@ -10,19 +10,20 @@ use native.Mathlib.Omega.{arith}
 use lib.ListN.{length}
 use Rattle.walk.specs.Syntax.{Interval, I0, I1, Dim, Neg, Meet, Join, Term, Universe, Var, Nat, Zero, Pi, Lam, App, Path, PathLam, PathApp, Context, Nil, Cons}
 use Rattle.walk.specs.Judgment.{Judgment}
+use Rattle.walk.specs.Refusal as Refusal
 use Rattle.walk.specs.State.{Thing, State, Outcome, done, refused, M, go-on, looking, _>>=_, pure, refuse, if_then_else_, from_get_or_, row-of, push, emit, among, with-cell, count, count-all, note, enter}
 use Rattle.walk.specs.Walk.Reference.{Op, Shift, Subst, DShift, DSubst, IOp, IShift, ISubst, Callees}
 use Rattle.walk.specs.Walk.Numbers.{lt-by, le-by, comparison-body, max-body}
 use Rattle.walk.specs.Walk.Intervals.{ifinish, idim-above, idim, itransform-body, interval-body}
 use Rattle.walk.specs.Walk.Transforms.{under-body, finish, tvar-above, tvar, tinterval, transform-body}
 use Rattle.walk.specs.Walk.Contexts.{dshiftctx-body, lookup-body}
-use Rattle.walk.specs.Walk.{none-left, entered, callees}
+use Rattle.walk.specs.Walk.{none-left, entered, callees-by, one-more, callees}
 
 -- a new row, an entry or a new cell that cannot be had
 pub data Full : ℕ → Type 0 where
-  no-row : Full 18
-  no-entry : Full 19
-  no-cell : Full 20
+  no-row : Full Refusal.rows
+  no-entry : Full Refusal.nesting
+  no-cell : Full Refusal.cells
 
 -- a dimension of the interval is not below d
 pub data Outside (d : ℕ) : Interval → Type 0 where
@@ -35,7 +36,7 @@ pub data Outside (d : ℕ) : Interval → Type 0 where
 
 pub data Of-interval (d : ℕ) (r : Interval) : ℕ → Type 0 where
   full : {n : ℕ} → Full n → Of-interval d r n
-  outside : Outside d r → Of-interval d r 17
+  outside : Outside d r → Of-interval d r Refusal.dimension
 
 -- a context of so many types
 abbrev pub size : Context → ℕ
@@ -44,7 +45,7 @@ size (Cons a g) = suc (size g)
 
 pub data Of-lookup (g : Context) (k : ℕ) : ℕ → Type 0 where
   full : {n : ℕ} → Full n → Of-lookup g k n
-  unbound : size g ≤ k → Of-lookup g k 8
+  unbound : size g ≤ k → Of-lookup g k Refusal.unbound
 
 -- m is refused with numbers of P only
 abbrev pub Passes : {A : Type 0} → (ℕ → Type 0) → Outcome A → Type 0
@@ -88,7 +89,7 @@ emits : (rule : ℕ) (refs : List ℕ) (j : Judgment) → Only Full (emit rule r
 unfolding emit looking pure push refuse if_then_else_ from_get_or_
 emits rule refs j = record { only = λ s. go s (row-of j (s .rows)) (decLt (length (s .rows)) (s .row-room)) }
   where
-    go : (s : State) (o : Option ℕ) (d : Dec (length (s .rows) < s .row-room)) → Passes Full ((from o get pure or (if d then push (record { rule = rule; refs = refs; judgment = j }) else refuse 18)) s)
+    go : (s : State) (o : Option ℕ) (d : Dec (length (s .rows) < s .row-room)) → Passes Full ((from o get pure or (if d then push (record { rule = rule; refs = refs; judgment = j }) else refuse Refusal.rows)) s)
     go s (some n) d = tt
     go s none (yes h) = tt
     go s none (no h) = no-row
@@ -97,7 +98,7 @@ counts : (x : Thing) → Only Full (count x)
 unfolding count
 counts x = record { only = λ s. go s (among x (s .cells)) (decLt (length (s .cells)) (s .cell-room)) }
   where
-    go : (s : State) (b : Bool) (d : Dec (length (s .cells) < s .cell-room)) → Passes {A = Unit {0}} Full (elim b as (λ _. Outcome (Unit {0})) [ true ↦ done tt s | false ↦ elim d as (λ _. Outcome (Unit {0})) [ yes h ↦ done tt (with-cell x s) | no h ↦ refused 20 s ] ])
+    go : (s : State) (b : Bool) (d : Dec (length (s .cells) < s .cell-room)) → Passes {A = Unit {0}} Full (elim b as (λ _. Outcome (Unit {0})) [ true ↦ done tt s | false ↦ elim d as (λ _. Outcome (Unit {0})) [ yes h ↦ done tt (with-cell x s) | no h ↦ refused Refusal.cells s ] ])
     go s true d = tt
     go s false (yes h) = tt
     go s false (no h) = no-cell
@@ -129,6 +130,7 @@ pub record Refusals (c : Callees) : Type 0 where
   pub interval : (d : ℕ) (r : Interval) → Only (Of-interval d r) (c .interval d r)
   -- any comparison
   pub compared : (m n : ℕ) → Only (Of-interval n (Dim m)) (c .comparison m n true)
+  pub more : (n : ℕ) → Only Full (c .more n)
 
 ruleset combinators = (binds, gives, emits, counts-all)
 
@@ -155,7 +157,7 @@ module _ (c : Callees) (R : Refusals c) where
 
   compared-only : (m n : ℕ) → Only (Of-interval n (Dim m)) (comparison-body c m n true)
   unfolding comparison-body
-  compared-only m n = branches (decLt m n) (λ h. wider (λ n. full) (lt-by-only m n h)) (λ h. refuses 17 (outside (here (omega arith))))
+  compared-only m n = branches (decLt m n) (λ h. wider (λ n. full) (lt-by-only m n h)) (λ h. refuses _ (outside (here (omega arith))))
 
   max-only : (m n : ℕ) → Only Full (max-body c m n)
   unfolding max-body
@@ -203,7 +205,7 @@ module _ (c : Callees) (R : Refusals c) where
 
   idim-only : (n : ℕ) (op : IOp) → Only Full (idim c n op)
   unfolding idim
-  idim-only n (IShift k) = branches (decLt n k) (λ h. binds (R .below n k h) λ x. ifinish-only _ _ _ _ _) (λ h. binds (R .at-most k n (omega arith)) λ x. ifinish-only _ _ _ _ _)
+  idim-only n (IShift k) = branches (decLt n k) (λ h. binds (R .below n k h) λ x. ifinish-only _ _ _ _ _) (λ h. binds (R .at-most k n (omega arith)) λ x. binds (R .more n) λ n′. ifinish-only _ _ _ _ _)
   idim-only n (ISubst k q) = branches (ℕ-discrete n k) (λ e. ifinish-only _ _ _ _ _) (λ e. branches (decLt n k) (λ h. binds (R .below n k h) λ x. ifinish-only _ _ _ _ _) (λ h. idim-above-only n k q (omega (arith, e, h))))
 
   itransform-only : (r : Interval) (op : IOp) → Only Full (itransform-body c r op)
@@ -217,14 +219,14 @@ module _ (c : Callees) (R : Refusals c) where
 
   under-only : (op : Op) (dimension : Bool) → Only Full (under-body c op dimension)
   unfolding under-body
-  under-only (Shift k) false = search combinators
+  under-only (Shift k) false = search (combinators, R .more)
   under-only (Shift k) true = search combinators
-  under-only (Subst k r) false = search (combinators, R .transform)
+  under-only (Subst k r) false = search (combinators, R .transform, R .more)
   under-only (Subst k r) true = search (combinators, R .transform)
   under-only (DShift k) false = search combinators
-  under-only (DShift k) true = search combinators
+  under-only (DShift k) true = search (combinators, R .more)
   under-only (DSubst k r) false = search combinators
-  under-only (DSubst k r) true = search (combinators, R .itransform)
+  under-only (DSubst k r) true = search (combinators, R .itransform, R .more)
 
   finish-only : (t : Term) (op : Op) (out : Term) (rule : ℕ) (refs : List ℕ) → Only Full (finish t op out rule refs)
   unfolding finish
@@ -237,7 +239,7 @@ module _ (c : Callees) (R : Refusals c) where
 
   tvar-only : (n : ℕ) (op : Op) → Only Full (tvar c n op)
   unfolding tvar
-  tvar-only n (Shift k) = branches (decLt n k) (λ h. binds (R .below n k h) λ x. finish-only _ _ _ _ _) (λ h. binds (R .at-most k n (omega arith)) λ x. finish-only _ _ _ _ _)
+  tvar-only n (Shift k) = branches (decLt n k) (λ h. binds (R .below n k h) λ x. finish-only _ _ _ _ _) (λ h. binds (R .at-most k n (omega arith)) λ x. binds (R .more n) λ n′. finish-only _ _ _ _ _)
   tvar-only n (Subst k r) = branches (ℕ-discrete n k) (λ e. finish-only _ _ _ _ _) (λ e. branches (decLt n k) (λ h. binds (R .below n k h) λ x. finish-only _ _ _ _ _) (λ h. tvar-above-only n k r (omega (arith, e, h))))
   tvar-only n (DShift k) = search finish-only
   tvar-only n (DSubst k r) = search finish-only
@@ -269,7 +271,7 @@ module _ (c : Callees) (R : Refusals c) where
 
   lookup-only : (g : Context) (k : ℕ) → Only (Of-lookup g k) (lookup-body c g k)
   unfolding lookup-body
-  lookup-only Nil k = refuses 8 (unbound (omega arith))
+  lookup-only Nil k = refuses _ (unbound (omega arith))
   lookup-only (Cons a g) ℕ.zero = wider (λ n. full) (binds (R .transform a (Shift 0)) λ p. binds (counts-all _) λ _. binds (emits _ _ _) λ row. gives _)
   lookup-only (Cons a g) (ℕ.suc k) = binds (wider up (R .lookup g k)) λ p. wider (λ n. full) (binds (R .transform (p .0) (Shift 0)) λ q. binds (counts-all _) λ _. binds (emits _ _ _) λ row. gives _)
     where
@@ -277,19 +279,20 @@ module _ (c : Callees) (R : Refusals c) where
       up n (full f) = full f
       up n (unbound l) = unbound (omega arith)
 
-none-only : Refusals none-left
-unfolding none-left
+none-only : Refusals (none-left one-more)
+unfolding none-left one-more
 none-only = record {
-  below = λ m n l. refuses 19 no-entry;
-  at-most = λ m n l. refuses 19 no-entry;
-  max = λ m n. refuses 19 no-entry;
-  itransform = λ r op. refuses 19 no-entry;
-  under = λ op dimension. refuses 19 no-entry;
-  transform = λ t op. refuses 19 no-entry;
-  dshiftctx = λ g. refuses 19 no-entry;
-  lookup = λ g k. refuses 19 (full no-entry);
-  interval = λ d r. refuses 19 (full no-entry);
-  compared = λ m n. refuses 19 (full no-entry);
+  below = λ m n l. refuses _ no-entry;
+  at-most = λ m n l. refuses _ no-entry;
+  max = λ m n. refuses _ no-entry;
+  itransform = λ r op. refuses _ no-entry;
+  under = λ op dimension. refuses _ no-entry;
+  transform = λ t op. refuses _ no-entry;
+  dshiftctx = λ g. refuses _ no-entry;
+  lookup = λ g k. refuses _ (full no-entry);
+  interval = λ d r. refuses _ (full no-entry);
+  compared = λ m n. refuses _ (full no-entry);
+  more = λ n. gives (suc n);
 }
 
 entered-only : (n : ℕ) (c : Callees) → Refusals c → Refusals (entered n c)
@@ -305,10 +308,11 @@ entered-only n c R = record {
   lookup = λ g k. enters n _ (λ k. full) (lookup-only c R g k);
   interval = λ d r. enters n _ (λ k. full) (interval-only c R d r);
   compared = λ m k. enters n _ (λ k. full) (compared-only c R m k);
+  more = R .more;
 }
 
 -- with n entries left
 pub refusals : (n : ℕ) → Refusals (callees n)
-unfolding callees
+unfolding callees callees-by
 refusals ℕ.zero = none-only
 refusals (ℕ.suc n) = entered-only n (callees n) (refusals n)

@@ -9,6 +9,7 @@ use native.Mathlib.Numerals.{sub-one}
 use native.Mathlib.Omega.{arith}
 use denote.Enum.Declared as enum
 use types.Run.{OneOf}
+use Rattle.walk.specs.Refusal as Refusal
 use Rattle.ast.specs.declared.cells.Shape.{Shape}
 use Rattle.ast.specs.declared.cells.Shape.the-variants.{Universe, Pi, Lam, Path, Plam, Other}
 use Rattle.ast.proofs.cells.Shape as shape
@@ -28,7 +29,7 @@ use Rattle.producer.specs.Contexts.{lookup-body, dshiftctx-body}
 use Rattle.producer.specs.Typing.{ctx-body, infer-body, universe-body, check-body, expose-body}
 use Rattle.producer.specs.Equality.{normalize-body, equal-body, reduce-body, round, rounds, on-step, on-next}
 
-pub ready-none : (k : ℕ) (w : Machine) → k ≡ 0 → callees k .ready w ≡ stop 19 w
+pub ready-none : (k : ℕ) (w : Machine) → k ≡ 0 → callees k .ready w ≡ stop Refusal.nesting w
 unfolding callees none-left
 ready-none k w h = rw h
 
@@ -37,7 +38,7 @@ unfolding callees entered
 ready-in zero w h = absurd (h refl)
 ready-in (suc k) w h = rw sub-one
 
-pub ctx-none : (k d g : ℕ) (w : Machine) → k ≡ 0 → callees k .ctx d g w ≡ stop 19 w
+pub ctx-none : (k d g : ℕ) (w : Machine) → k ≡ 0 → callees k .ctx d g w ≡ stop Refusal.nesting w
 unfolding callees none-left
 ctx-none k d g w h = rw h
 
@@ -46,7 +47,7 @@ unfolding callees entered
 ctx-in zero d g w h = absurd (h refl)
 ctx-in (suc k) d g w h = rw sub-one
 
-pub infer-none : (k d g t : ℕ) (w : Machine) → k ≡ 0 → callees k .infer d g t w ≡ stop 19 w
+pub infer-none : (k d g t : ℕ) (w : Machine) → k ≡ 0 → callees k .infer d g t w ≡ stop Refusal.nesting w
 unfolding callees none-left
 infer-none k d g t w h = rw h
 
@@ -55,7 +56,7 @@ unfolding callees entered
 infer-in zero d g t w h = absurd (h refl)
 infer-in (suc k) d g t w h = rw sub-one
 
-pub universe-none : (k d g t : ℕ) (w : Machine) → k ≡ 0 → callees k .universe d g t w ≡ stop 19 w
+pub universe-none : (k d g t : ℕ) (w : Machine) → k ≡ 0 → callees k .universe d g t w ≡ stop Refusal.nesting w
 unfolding callees none-left
 universe-none k d g t w h = rw h
 
@@ -64,7 +65,7 @@ unfolding callees entered
 universe-in zero d g t w h = absurd (h refl)
 universe-in (suc k) d g t w h = rw sub-one
 
-pub check-none : (k d g t ty : ℕ) (w : Machine) → k ≡ 0 → callees k .check d g t ty w ≡ stop 19 w
+pub check-none : (k d g t ty : ℕ) (w : Machine) → k ≡ 0 → callees k .check d g t ty w ≡ stop Refusal.nesting w
 unfolding callees none-left
 check-none k d g t ty w h = rw h
 
@@ -73,7 +74,7 @@ unfolding callees entered
 check-in zero d g t ty w h = absurd (h refl)
 check-in (suc k) d g t ty w h = rw sub-one
 
-pub expose-none : (k d g t ty row : ℕ) (w : Machine) → k ≡ 0 → callees k .expose d g t ty row w ≡ stop 19 w
+pub expose-none : (k d g t ty row : ℕ) (w : Machine) → k ≡ 0 → callees k .expose d g t ty row w ≡ stop Refusal.nesting w
 unfolding callees none-left
 expose-none k d g t ty row w h = rw h
 
@@ -82,7 +83,7 @@ unfolding callees entered
 expose-in zero d g t ty row w h = absurd (h refl)
 expose-in (suc k) d g t ty row w h = rw sub-one
 
-pub normalize-none : (k d g t ty : ℕ) (w : Machine) → k ≡ 0 → callees k .normalize d g t ty w ≡ stop 19 w
+pub normalize-none : (k d g t ty : ℕ) (w : Machine) → k ≡ 0 → callees k .normalize d g t ty w ≡ stop Refusal.nesting w
 unfolding callees none-left
 normalize-none k d g t ty w h = rw h
 
@@ -91,7 +92,7 @@ unfolding callees entered
 normalize-in zero d g t ty w h = absurd (h refl)
 normalize-in (suc k) d g t ty w h = rw sub-one
 
-pub equal-none : (k d g a b ty : ℕ) (w : Machine) → k ≡ 0 → callees k .equal d g a b ty w ≡ stop 19 w
+pub equal-none : (k d g a b ty : ℕ) (w : Machine) → k ≡ 0 → callees k .equal d g a b ty w ≡ stop Refusal.nesting w
 unfolding callees none-left
 equal-none k d g a b ty w h = rw h
 
@@ -100,7 +101,7 @@ unfolding callees entered
 equal-in zero d g a b ty w h = absurd (h refl)
 equal-in (suc k) d g a b ty w h = rw sub-one
 
-pub reduce-none : (k d g t : ℕ) (w : Machine) → k ≡ 0 → callees k .reduce d g t w ≡ stop 19 w
+pub reduce-none : (k d g t : ℕ) (w : Machine) → k ≡ 0 → callees k .reduce d g t w ≡ stop Refusal.nesting w
 unfolding callees none-left
 reduce-none k d g t w h = rw h
 
@@ -109,7 +110,7 @@ unfolding callees entered
 reduce-in zero d g t w h = absurd (h refl)
 reduce-in (suc k) d g t w h = rw sub-one
 
-pub lookup-none : (k g n : ℕ) (w : Machine) → k ≡ 0 → callees k .lookup g n w ≡ stop 19 w
+pub lookup-none : (k g n : ℕ) (w : Machine) → k ≡ 0 → callees k .lookup g n w ≡ stop Refusal.nesting w
 unfolding callees none-left
 lookup-none k g n w h = rw h
 
@@ -118,7 +119,7 @@ unfolding callees entered
 lookup-in zero g n w h = absurd (h refl)
 lookup-in (suc k) g n w h = rw sub-one
 
-pub dshiftctx-none : (k g : ℕ) (w : Machine) → k ≡ 0 → callees k .dshiftctx g w ≡ stop 19 w
+pub dshiftctx-none : (k g : ℕ) (w : Machine) → k ≡ 0 → callees k .dshiftctx g w ≡ stop Refusal.nesting w
 unfolding callees none-left
 dshiftctx-none k g w h = rw h
 
@@ -127,7 +128,7 @@ unfolding callees entered
 dshiftctx-in zero g w h = absurd (h refl)
 dshiftctx-in (suc k) g w h = rw sub-one
 
-pub transform-none : (k t : ℕ) (op : Op) (w : Machine) → k ≡ 0 → callees k .transform t op w ≡ stop 19 w
+pub transform-none : (k t : ℕ) (op : Op) (w : Machine) → k ≡ 0 → callees k .transform t op w ≡ stop Refusal.nesting w
 unfolding callees none-left
 transform-none k t op w h = rw h
 
@@ -136,7 +137,7 @@ unfolding callees entered
 transform-in zero t op w h = absurd (h refl)
 transform-in (suc k) t op w h = rw sub-one
 
-pub under-none : (k : ℕ) (op : Op) (dimension : Bool) (w : Machine) → k ≡ 0 → callees k .under op dimension w ≡ stop 19 w
+pub under-none : (k : ℕ) (op : Op) (dimension : Bool) (w : Machine) → k ≡ 0 → callees k .under op dimension w ≡ stop Refusal.nesting w
 unfolding callees none-left
 under-none k op dimension w h = rw h
 
@@ -145,7 +146,7 @@ unfolding callees entered
 under-in zero op dimension w h = absurd (h refl)
 under-in (suc k) op dimension w h = rw sub-one
 
-pub itransform-none : (k r : ℕ) (op : IOp) (w : Machine) → k ≡ 0 → callees k .itransform r op w ≡ stop 19 w
+pub itransform-none : (k r : ℕ) (op : IOp) (w : Machine) → k ≡ 0 → callees k .itransform r op w ≡ stop Refusal.nesting w
 unfolding callees none-left
 itransform-none k r op w h = rw h
 
@@ -154,7 +155,7 @@ unfolding callees entered
 itransform-in zero r op w h = absurd (h refl)
 itransform-in (suc k) r op w h = rw sub-one
 
-pub interval-none : (k d r : ℕ) (w : Machine) → k ≡ 0 → callees k .interval d r w ≡ stop 19 w
+pub interval-none : (k d r : ℕ) (w : Machine) → k ≡ 0 → callees k .interval d r w ≡ stop Refusal.nesting w
 unfolding callees none-left
 interval-none k d r w h = rw h
 
@@ -163,7 +164,7 @@ unfolding callees entered
 interval-in zero d r w h = absurd (h refl)
 interval-in (suc k) d r w h = rw sub-one
 
-pub comparison-none : (k m n : ℕ) (strict : Bool) (w : Machine) → k ≡ 0 → callees k .comparison m n strict w ≡ stop 19 w
+pub comparison-none : (k m n : ℕ) (strict : Bool) (w : Machine) → k ≡ 0 → callees k .comparison m n strict w ≡ stop Refusal.nesting w
 unfolding callees none-left
 comparison-none k m n strict w h = rw h
 
@@ -172,7 +173,7 @@ unfolding callees entered
 comparison-in zero m n strict w h = absurd (h refl)
 comparison-in (suc k) m n strict w h = rw sub-one
 
-pub max-none : (k m n : ℕ) (w : Machine) → k ≡ 0 → callees k .max m n w ≡ stop 19 w
+pub max-none : (k m n : ℕ) (w : Machine) → k ≡ 0 → callees k .max m n w ≡ stop Refusal.nesting w
 unfolding callees none-left
 max-none k m n w h = rw h
 
@@ -279,6 +280,6 @@ pub rounds-turn : (c : Callees) (i d g t ty current row : ℕ) (w : Machine) →
 unfolding rounds _>>=_
 rounds-turn c i d g t ty current row w h = let e : 32 - i ≡ suc (32 - (i + 1)) = omega arith in rw e
 
-pub rounds-over : (c : Callees) (i d g t ty current row : ℕ) (w : Machine) → 32 ≤ i → rounds (32 - i) c d g t ty current row w ≡ next (c .reduce d g current w) (λ x. on-step x (λ step. stop 15) (give (current, row)))
+pub rounds-over : (c : Callees) (i d g t ty current row : ℕ) (w : Machine) → 32 ≤ i → rounds (32 - i) c d g t ty current row w ≡ next (c .reduce d g current w) (λ x. on-step x (λ step. stop Refusal.reductions) (give (current, row)))
 unfolding rounds _>>=_
 rounds-over c i d g t ty current row w h = let e : 32 - i ≡ 0 = omega arith in rw e

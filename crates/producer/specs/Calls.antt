@@ -1,5 +1,6 @@
 -- The functions: `callees n` are those that may be called with n entries left. Assumes nothing.
 use Prim.Native.Nat.{ℕ, zero, suc}
+use Rattle.walk.specs.Refusal as Refusal
 use Rattle.producer.specs.Machine.{stop, enter, note}
 use Rattle.producer.specs.Callees.{Callees}
 use Rattle.producer.specs.Numbers.{comparison-body, max-body}
@@ -12,23 +13,23 @@ use Rattle.producer.specs.Equality.{normalize-body, equal-body, reduce-b
 -- with nothing left each is refused
 unfoldable pub none-left : Callees
 none-left = record {
-  ready = stop 19;
-  ctx = λ d g. stop 19;
-  infer = λ d g t. stop 19;
-  universe = λ d g t. stop 19;
-  check = λ d g t ty. stop 19;
-  expose = λ d g t ty row. stop 19;
-  normalize = λ d g t ty. stop 19;
-  equal = λ d g a b ty. stop 19;
-  reduce = λ d g t. stop 19;
-  lookup = λ g k. stop 19;
-  dshiftctx = λ g. stop 19;
-  transform = λ t op. stop 19;
-  under = λ op dimension. stop 19;
-  itransform = λ r op. stop 19;
-  interval = λ d r. stop 19;
-  comparison = λ m k strict. stop 19;
-  max = λ m k. stop 19;
+  ready = stop Refusal.nesting;
+  ctx = λ d g. stop Refusal.nesting;
+  infer = λ d g t. stop Refusal.nesting;
+  universe = λ d g t. stop Refusal.nesting;
+  check = λ d g t ty. stop Refusal.nesting;
+  expose = λ d g t ty row. stop Refusal.nesting;
+  normalize = λ d g t ty. stop Refusal.nesting;
+  equal = λ d g a b ty. stop Refusal.nesting;
+  reduce = λ d g t. stop Refusal.nesting;
+  lookup = λ g k. stop Refusal.nesting;
+  dshiftctx = λ g. stop Refusal.nesting;
+  transform = λ t op. stop Refusal.nesting;
+  under = λ op dimension. stop Refusal.nesting;
+  itransform = λ r op. stop Refusal.nesting;
+  interval = λ d r. stop Refusal.nesting;
+  comparison = λ m k strict. stop Refusal.nesting;
+  max = λ m k. stop Refusal.nesting;
 }
 
 -- entered with n left below: the body runs over what is left

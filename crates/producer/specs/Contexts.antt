@@ -4,6 +4,7 @@ use lib.Dec.{eqb}
 use Rattle.producer.specs.declared.rows.Refs.{Refs}
 use Rattle.producer.specs.declared.transforms.Op.the-variants.{Shift, DShift}
 use Rattle.walk.specs.Rule as R
+use Rattle.walk.specs.Refusal as Refusal
 use Rattle.producer.specs.Machine.{W, _>>=_, give, stop, when_then_else_, open-cell, lowest, make-cons, emit, no-refs, refs-1, refs-2}
 use Rattle.producer.specs.Callees.{Callees}
 
@@ -24,7 +25,7 @@ dshiftctx-body c i =
 unfoldable pub lookup-body : Callees → (i n : ℕ) → W (ℕ × ℕ)
 lookup-body c i n =
     open-cell i λ w.
-    when eqb (w .kind) 32 then stop 8
+    when eqb (w .kind) 32 then stop Refusal.unbound
     else
     (when eqb n 0
     then (do

@@ -4,6 +4,7 @@ use mathlib.Core.Option.{Option, none, some}
 use lib.Dec.{eqb}
 use Rattle.producer.specs.declared.transforms.Op.the-variants.{Subst, DSubst}
 use Rattle.walk.specs.Rule as R
+use Rattle.walk.specs.Refusal as Refusal
 use Rattle.producer.specs.Machine.{W, Reduction, _>>=_, give, stop, when_then_else_, open-cell, same-quote, at-lam, at-plam, make-cons, emit-eq, refs-1, refs-2, refs-3, refs-5, refs-6}
 use Rattle.producer.specs.Callees.{Callees, for-call}
 use Rattle.producer.specs.Typing.{as-path}
@@ -77,14 +78,14 @@ round c d g t ty current evidence = do
         _ ← c .check d g (step .term) ty
         row ← emit-eq R.eq·trans (refs-2 evidence (step .row)) d g t (step .term) ty
         give (some (step .term, row)))
-      (stop 14))
+      (stop Refusal.step-type))
       (give none)
 
 -- at most `left` reductions: one more is refused
 unfoldable pub rounds : ℕ → Callees → (d g t ty current evidence : ℕ) → W (ℕ × ℕ)
 rounds zero c d g t ty current evidence = do
   next ← c .reduce d g current
-  on-step next (λ step. stop 15) (give (current, evidence))
+  on-step next (λ step. stop Refusal.reductions) (give (current, evidence))
 rounds (suc left) c d g t ty current evidence = do
   next ← round c d g t ty current evidence
   on-next next (λ term row. rounds left c d g t ty term row) (give (current, evidence))
@@ -104,7 +105,7 @@ equal-normal c d g a b ty = do
       (do
         reverse ← emit-eq R.eq·sym (refs-1 r) d g right b ty
         emit-eq R.eq·trans (refs-2 l reverse) d g a b ty)
-      (stop 13)
+      (stop Refusal.quotes)
 
 unfoldable pub equal-body : Callees → (d g a b ty : ℕ) → W ℕ
 equal-body c d g a b ty = do

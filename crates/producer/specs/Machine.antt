@@ -8,6 +8,7 @@ use mathlib.Core.Option.{Option, none, some}
 use lib.ListN.{getD}
 use lib.Seq.{sets}
 use lib.Dec.{ltb, eqb}
+use Rattle.walk.specs.Refusal as Refusal
 use Rattle.ast.specs.Words.{ifb, up, greater-of, all-eq}
 use Rattle.ast.specs.Cells.{cell-of, quote-of, same-quote-of, shape-of}
 use Rattle.ast.specs.Index.{last-on, end-on, linked, mixed, hash-4}
@@ -225,7 +226,7 @@ unfoldable pub new-cell : (k a b c : ℕ) → W ℕ
 new-cell k a b c = λ w.
     ifb (ltb (w .state .cells) (w .state .cellroom))
     (is (w .state .cells) (add-cell (k ∷ a ∷ b ∷ c ∷ lowest-of (w .cells) (w .state .cells) k a b c ∷ 0 ∷ 0 ∷ 0 ∷ []) w))
-    (not 20 w)
+    (not Refusal.cells w)
 
 -- what is found, or else what follows
 unfoldable pub known-or : Found → W ℕ → W ℕ
@@ -364,7 +365,7 @@ unfoldable pub add-row : List ℕ → Machine → Machine
 add-row ws w = machine (sets (link-row (w .rows) (w .state .rows) (getD ws 19 0) (getD ws 13 0) (getD ws 14 0) (getD ws 15 0) (getD ws 16 0) (getD ws 17 0)) (w .state .rows * 24) ws) (w .cells) (one-more-row (w .state))
 
 unfoldable pub new-row : List ℕ → W ℕ
-new-row ws = λ w. ifb (ltb (w .state .rows) (w .state .rowroom)) (is (w .state .rows) (add-row ws w)) (not 18 w)
+new-row ws = λ w. ifb (ltb (w .state .rows) (w .state .rowroom)) (is (w .state .rows) (add-row ws w)) (not Refusal.rows w)
 
 -- a known judgment answers its row: the last with it
 unfoldable pub known-row : (kind a b c d e : ℕ) → W ℕ → W ℕ
@@ -397,7 +398,7 @@ remembered-or (At n) type row m = λ w. is tt (replace n type row w)
 remembered-or Nothing type row m = m
 
 unfoldable pub new-memory : List ℕ → W (Unit {0})
-new-memory ws = λ w. ifb (ltb (w .state .cells) (w .state .cellroom)) (is tt (add-cell ws w)) (not 20 w)
+new-memory ws = λ w. ifb (ltb (w .state .cells) (w .state .cellroom)) (is tt (add-cell ws w)) (not Refusal.cells w)
 
 unfoldable pub remember : (d g t type row : ℕ) → W (Unit {0})
 remember d g t type row = λ w. remembered-or (find-node (w .cells) (w .state .cells) 40 d g t) type row (new-memory (40 ∷ d ∷ g ∷ t ∷ type ∷ row ∷ 0 ∷ 0 ∷ [])) w
@@ -415,7 +416,7 @@ ended (is a w) = is a (with-conversions (w .state .conversions - 1) w)
 ended (not n w) = not n (with-conversions (w .state .conversions - 1) w)
 
 unfoldable pub converting : {A : Type 0} → W A → W A
-converting m = λ w. ifb (ltb (w .state .conversions) 32) (ended (m (with-conversions (w .state .conversions + 1) w))) (not 16 w)
+converting m = λ w. ifb (ltb (w .state .conversions) 32) (ended (m (with-conversions (w .state .conversions + 1) w))) (not Refusal.conversions w)
 
 -- the same of an answer
 unfoldable pub ended-1 : Got → Got

@@ -4,6 +4,7 @@ use mathlib.Core.Bool.{Bool, true, false}
 use lib.Dec.{ltb, leb, eqb}
 use Rattle.ast.specs.Words.{greater-of}
 use Rattle.walk.specs.Rule as R
+use Rattle.walk.specs.Refusal as Refusal
 use Rattle.producer.specs.Machine.{W, _>>=_, stop, when_then_else_, emit, no-refs, refs-1}
 use Rattle.producer.specs.Callees.{Callees}
 
@@ -22,8 +23,8 @@ le-by c m n =
 unfoldable pub comparison-body : Callees → (m n : ℕ) → Bool → W ℕ
 comparison-body c m n strict =
     when strict
-    then (when ltb m n then lt-by c m n else stop 17)
-    else (when leb m n then le-by c m n else stop 17)
+    then (when ltb m n then lt-by c m n else stop Refusal.dimension)
+    else (when leb m n then le-by c m n else stop Refusal.dimension)
 
 unfoldable pub max-body : Callees → (m n : ℕ) → W ℕ
 max-body c m n =

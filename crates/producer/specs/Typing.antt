@@ -6,6 +6,7 @@ use Rattle.ast.specs.declared.cells.Cell.{Cell}
 use Rattle.producer.specs.declared.rows.Refs.{Refs}
 use Rattle.producer.specs.declared.transforms.Op.the-variants.{Subst, DSubst}
 use Rattle.walk.specs.Rule as R
+use Rattle.walk.specs.Refusal as Refusal
 use Rattle.producer.specs.Machine.{W, Finding, _>>=_, give, stop, when_then_else_, open-cell, same-quote, at-universe, at-pi, at-path, intern, make-universe, make-pi, make-path, make-i0, make-i1, make-cons, emit, emit-has, known-row, recall-or, remember, converting, no-refs, refs-1, refs-2, refs-3, refs-4, refs-7, refs-10}
 use Rattle.producer.specs.Callees.{Callees, for-call}
 
@@ -41,7 +42,7 @@ expose-body c d g t ty typed = do
 unfoldable pub exposed : Callees → (d g t ty row : ℕ) → W (ℕ × ℕ)
 exposed c d g t ty row = do
   (normal, row′) ← c .expose d g t ty row
-  at-universe normal (λ l. give (l, row′)) (stop 11)
+  at-universe normal (λ l. give (l, row′)) (stop Refusal.no-type)
 
 unfoldable pub universe-body : Callees → (d g t : ℕ) → W (ℕ × ℕ)
 universe-body c d g t = do
@@ -57,7 +58,7 @@ converted c d g t actual expected row = do
       then (do
         equality ← for-call c (make-universe i) λ u. c .equal d g actual expected u
         emit-has R.type·conv (refs-3 row equality formed) d g t expected)
-      else stop 12
+      else stop Refusal.levels
 
 unfoldable pub check-body : Callees → (d g t ty : ℕ) → W ℕ
 check-body c d g t expected = do
@@ -74,13 +75,13 @@ unfoldable pub as-pi : Callees → (d g f ty row : ℕ) → W (ℕ × ℕ × ℕ
 as-pi c d g f ty row =
     at-pi ty (λ a b. give (a, b, row)) (do
       (ty′, row′) ← opened c d g f ty row
-      at-pi ty′ (λ a b. give (a, b, row′)) (stop 9))
+      at-pi ty′ (λ a b. give (a, b, row′)) (stop Refusal.no-function))
 
 unfoldable pub as-path : Callees → (d g p ty row : ℕ) → W (ℕ × ℕ × ℕ × ℕ)
 as-path c d g p ty row =
     at-path ty (λ a b e. give (a, b, e, row)) (do
       (ty′, row′) ← opened c d g p ty row
-      at-path ty′ (λ a b e. give (a, b, e, row′)) (stop 10))
+      at-path ty′ (λ a b e. give (a, b, e, row′)) (stop Refusal.no-path))
 
 unfoldable pub found : W ℕ → Refs → ℕ → W Finding
 found make refs rule = do

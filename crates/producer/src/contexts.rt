@@ -15,6 +15,7 @@ use crate::transforms::Op;
 use ast::cells::quote;
 use ast::cells::read;
 use ast::kinds;
+use ast::refusals;
 
 impl State {
     // The row of a context or of a type, once that is there: `p` is the quote of the context that it is made from.
@@ -43,7 +44,7 @@ impl State {
         ensures { λ r. ⌜ end-2 r (now (rows .exit)) (now (cells .exit)) ≡ callees left .dshiftctx g (machine (now (rows .entry)) (now (cells .entry)) self) ⌝ }
     {
         if left == 0 {
-            return Two::Refused(self, codes::NESTING);
+            return Two::Refused(self, refusals::NESTING);
         }
         let down = left - 1;
         let s0 = self.deeper(down);
@@ -92,13 +93,13 @@ impl State {
         ensures { λ r. ⌜ end-2 r (now (rows .exit)) (now (cells .exit)) ≡ callees left .lookup g n (machine (now (rows .entry)) (now (cells .entry)) self) ⌝ }
     {
         if left == 0 {
-            return Two::Refused(self, codes::NESTING);
+            return Two::Refused(self, refusals::NESTING);
         }
         let down = left - 1;
         let s0 = self.deeper(down);
         let cell = read(cells, g);
         if cell.kind == kinds::NIL {
-            return Two::Refused(s0, codes::UNBOUND);
+            return Two::Refused(s0, refusals::UNBOUND);
         }
         if n == 0 {
             let q1 = s0.transform(down, rows, cells, cell.a, Op::Shift(0));

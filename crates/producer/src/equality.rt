@@ -21,6 +21,7 @@ use ast::cells::read;
 use ast::cells::same_quote;
 use ast::cells::shape_of;
 use ast::kinds;
+use ast::refusals;
 
 impl State {
     // The term reduced at its root, with its type and the row of the equation.
@@ -36,7 +37,7 @@ impl State {
         ensures { λ r. ⌜ end-step r (now (rows .exit)) (now (cells .exit)) ≡ callees left .reduce d g t (machine (now (rows .entry)) (now (cells .entry)) self) ⌝ }
     {
         if left == 0 {
-            return Reduced::Refused(self, codes::NESTING);
+            return Reduced::Refused(self, refusals::NESTING);
         }
         let down = left - 1;
         let s0 = self.deeper(down);
@@ -260,7 +261,7 @@ impl State {
         ensures { λ r. ⌜ end-2 r (now (rows .exit)) (now (cells .exit)) ≡ callees left .normalize d g t ty (machine (now (rows .entry)) (now (cells .entry)) self) ⌝ }
     {
         if left == 0 {
-            return Two::Refused(self, codes::NESTING);
+            return Two::Refused(self, refusals::NESTING);
         }
         let down = left - 1;
         let s0 = self.deeper(down);
@@ -311,7 +312,7 @@ impl State {
             i += 1;
         }
         match s.reduce(left, rows, cells, d, g, current) {
-            Reduced::Step(s1, _, _, _) => Two::Refused(s1, codes::REDUCTIONS),
+            Reduced::Step(s1, _, _, _) => Two::Refused(s1, refusals::REDUCTIONS),
             Reduced::Whole(s1) => Two::Pair(s1, current, row),
             Reduced::Refused(s1, e) => Two::Refused(s1, e),
         }
@@ -346,7 +347,7 @@ impl State {
                     };
                     return Round::Next(s3, term, row);
                 }
-                Round::Refused(s1, codes::STEP_TYPE)
+                Round::Refused(s1, refusals::STEP_TYPE)
             }
             Reduced::Whole(s1) => Round::Over(s1),
             Reduced::Refused(s1, e) => Round::Refused(s1, e),
@@ -368,7 +369,7 @@ impl State {
         ensures { λ r. ⌜ end r (now (rows .exit)) (now (cells .exit)) ≡ callees left .equal d g a b ty (machine (now (rows .entry)) (now (cells .entry)) self) ⌝ }
     {
         if left == 0 {
-            return Got::Refused(self, codes::NESTING);
+            return Got::Refused(self, refusals::NESTING);
         }
         let down = left - 1;
         let s0 = self.deeper(down);
@@ -401,6 +402,6 @@ impl State {
             let refs = cite2(x, z);
             return s5.emit_eq(rows, cells, codes::EQ_TRANS, refs, d, g, a, b, ty);
         }
-        Got::Refused(s4, codes::QUOTES)
+        Got::Refused(s4, refusals::QUOTES)
     }
 }

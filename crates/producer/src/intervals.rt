@@ -14,6 +14,7 @@ use crate::state::Two;
 use ast::cells::quote;
 use ast::cells::read;
 use ast::kinds;
+use ast::refusals;
 use ast::words::succ;
 
 // What is done to an interval's dimensions: shift from k, put r for k.
@@ -38,7 +39,7 @@ impl State {
         ensures { λ x. ⌜ end x (now (rows .exit)) (now (cells .entry)) ≡ callees left .interval d r (machine (now (rows .entry)) (now (cells .entry)) self) ⌝ }
     {
         if left == 0 {
-            return Got::Refused(self, codes::NESTING);
+            return Got::Refused(self, refusals::NESTING);
         }
         let down = left - 1;
         let s0 = self.deeper(down);
@@ -368,7 +369,7 @@ impl State {
         ensures { λ r. ⌜ end-2 r (now (rows .exit)) (now (cells .exit)) ≡ callees left .itransform i op (machine (now (rows .entry)) (now (cells .entry)) self) ⌝ }
     {
         if left == 0 {
-            return Two::Refused(self, codes::NESTING);
+            return Two::Refused(self, refusals::NESTING);
         }
         let down = left - 1;
         let s0 = self.deeper(down);

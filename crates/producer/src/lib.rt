@@ -1,5 +1,5 @@
 // The producer of producer.rs over lent slices of 32-bit words: rows, cells, and the sixteen reference functions.
-pub mod codes; // the numbers of refusals, judgments and rules
+pub mod codes; // the numbers of judgments and rules
 pub mod state; // the counts that travel, and the answers
 pub mod answers; // refusals, from one answer to another
 pub mod rows; // rows, citations, the search for a known judgment

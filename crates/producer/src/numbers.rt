@@ -7,6 +7,7 @@ use crate::rows::cite0;
 use crate::rows::cite1;
 use crate::state::Got;
 use crate::state::State;
+use ast::refusals;
 use ast::words::greater;
 
 impl State {
@@ -23,7 +24,7 @@ impl State {
         ensures { λ r. ⌜ end r (now (rows .exit)) (now (cells .entry)) ≡ callees left .comparison m n strict (machine (now (rows .entry)) (now (cells .entry)) self) ⌝ }
     {
         if left == 0 {
-            return Got::Refused(self, codes::NESTING);
+            return Got::Refused(self, refusals::NESTING);
         }
         let down = left - 1;
         let s0 = self.deeper(down);
@@ -64,7 +65,7 @@ impl State {
                     0,
                 );
             }
-            return Got::Refused(s0, codes::DIMENSION);
+            return Got::Refused(s0, refusals::DIMENSION);
         }
         if m <= n {
             if m == 0 {
@@ -102,7 +103,7 @@ impl State {
                 0,
             );
         }
-        Got::Refused(s0, codes::DIMENSION)
+        Got::Refused(s0, refusals::DIMENSION)
     }
 
     // The row of the greater of two levels.
@@ -110,7 +111,7 @@ impl State {
         ensures { λ r. ⌜ end r (now (rows .exit)) (now (cells .entry)) ≡ callees left .max m n (machine (now (rows .entry)) (now (cells .entry)) self) ⌝ }
     {
         if left == 0 {
-            return Got::Refused(self, codes::NESTING);
+            return Got::Refused(self, refusals::NESTING);
         }
         let down = left - 1;
         let s0 = self.deeper(down);

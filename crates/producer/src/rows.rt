@@ -15,6 +15,7 @@ use ast::index::hash;
 use ast::index::kept;
 use ast::index::later;
 use ast::index::mix;
+use ast::refusals;
 use ast::words::put;
 use ast::words::succ;
 use ast::words::word;
@@ -441,7 +442,7 @@ impl State {
                     self.rows = n + 1;
                     return Got::Is(self, n);
                 }
-                Got::Refused(self, codes::ROWS)
+                Got::Refused(self, refusals::ROWS)
             }
         }
     }

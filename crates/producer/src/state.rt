@@ -3,8 +3,8 @@
 ghost use mathlib.Core.Path.{_≡_};
 ghost use Rattle.producer.specs.Machine.{new-state, fresh, deeper-of, conversions-of, ended-1, ended-2, end-0, machine};
 ghost use Rattle.producer.specs.Calls.{callees};
-use crate::codes;
 use crate::rows::Refs;
+use ast::refusals;
 use ast::words::greater;
 use ast::words::less;
 
@@ -116,7 +116,7 @@ impl State {
         ensures { λ r. ⌜ end-0 r (now (rows .entry)) (now (cells .entry)) ≡ callees left .ready (machine (now (rows .entry)) (now (cells .entry)) self) ⌝ }
     {
         if left == 0 {
-            return Done::Refused(self, codes::NESTING);
+            return Done::Refused(self, refusals::NESTING);
         }
         let s0 = self.deeper(left - 1);
         Done::Ready(s0)

@@ -3,7 +3,6 @@ ghost use mathlib.Core.Path.{_≡_};
 ghost use Rattle.producer.specs.Machine.{machine, end, end-0, intern, remember};
 ghost use Rattle.producer.specs.Callees.{prepared};
 ghost use Rattle.producer.specs.Calls.{callees};
-use crate::codes;
 use crate::state::Done;
 use crate::state::Got;
 use crate::state::State;
@@ -14,6 +13,7 @@ use ast::cells::lowest;
 use ast::cells::put_again;
 use ast::cells::put_cell;
 use ast::kinds;
+use ast::refusals;
 
 impl State {
     // The cell with the kind and the parts: the one that has them, or a new one; refuses (20) where none is left.
@@ -39,7 +39,7 @@ impl State {
                     self.cells = n + 1;
                     return Got::Is(self, n);
                 }
-                Got::Refused(self, codes::CELLS)
+                Got::Refused(self, refusals::CELLS)
             }
         }
     }
@@ -70,7 +70,7 @@ impl State {
                     self.cells = n + 1;
                     return Done::Ready(self);
                 }
-                Done::Refused(self, codes::CELLS)
+                Done::Refused(self, refusals::CELLS)
             }
         }
     }

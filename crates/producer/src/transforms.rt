@@ -20,6 +20,7 @@ use ast::cells::Cell;
 use ast::cells::quote;
 use ast::cells::read;
 use ast::kinds;
+use ast::refusals;
 use ast::words::succ;
 
 // What is done to a term: shift from k, put r for k; of variables, or of dimensions.
@@ -262,7 +263,7 @@ impl State {
         ensures { λ r. ⌜ end-2 r (now (rows .exit)) (now (cells .exit)) ≡ callees left .transform i op (machine (now (rows .entry)) (now (cells .entry)) self) ⌝ }
     {
         if left == 0 {
-            return Two::Refused(self, codes::NESTING);
+            return Two::Refused(self, refusals::NESTING);
         }
         let down = left - 1;
         let s0 = self.deeper(down);
@@ -574,7 +575,7 @@ impl State {
         ensures { λ r. ⌜ end-inner r (now (rows .exit)) (now (cells .exit)) ≡ callees left .under op dimension (machine (now (rows .entry)) (now (cells .entry)) self) ⌝ }
     {
         if left == 0 {
-            return Inner::Refused(self, codes::NESTING);
+            return Inner::Refused(self, refusals::NESTING);
         }
         let down = left - 1;
         let s0 = self.deeper(down);

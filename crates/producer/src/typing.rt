@@ -31,6 +31,7 @@ use ast::cells::recall;
 use ast::cells::same_quote;
 use ast::cells::shape_of;
 use ast::kinds;
+use ast::refusals;
 use ast::words::greater;
 use ast::words::succ;
 
@@ -40,7 +41,7 @@ impl State {
         ensures { λ r. ⌜ end r (now (rows .exit)) (now (cells .exit)) ≡ callees left .ctx d g (machine (now (rows .entry)) (now (cells .entry)) self) ⌝ }
     {
         if left == 0 {
-            return Got::Refused(self, codes::NESTING);
+            return Got::Refused(self, refusals::NESTING);
         }
         let down = left - 1;
         let s0 = self.deeper(down);
@@ -105,7 +106,7 @@ impl State {
         ensures { λ r. ⌜ end-2 r (now (rows .exit)) (now (cells .exit)) ≡ callees left .expose d g t ty typed (machine (now (rows .entry)) (now (cells .entry)) self) ⌝ }
     {
         if left == 0 {
-            return Two::Refused(self, codes::NESTING);
+            return Two::Refused(self, refusals::NESTING);
         }
         let down = left - 1;
         let s0 = self.deeper(down);
@@ -153,7 +154,7 @@ impl State {
         ensures { λ r. ⌜ end-2 r (now (rows .exit)) (now (cells .exit)) ≡ callees left .universe d g t (machine (now (rows .entry)) (now (cells .entry)) self) ⌝ }
     {
         if left == 0 {
-            return Two::Refused(self, codes::NESTING);
+            return Two::Refused(self, refusals::NESTING);
         }
         let down = left - 1;
         let s0 = self.deeper(down);
@@ -170,7 +171,7 @@ impl State {
             let q2 = s2.exposed(down, rows, cells, d, g, t, ty, row);
             return ended_two(q2);
         }
-        Two::Refused(s1, codes::CONVERSIONS)
+        Two::Refused(s1, refusals::CONVERSIONS)
     }
 
     // The level of a type that has its universe only once exposed.
@@ -193,7 +194,7 @@ impl State {
         };
         let shape = shape_of(cells, normal);
         let Shape::Universe(level) = shape else {
-            return Two::Refused(s, codes::NO_TYPE);
+            return Two::Refused(s, refusals::NO_TYPE);
         };
         Two::Pair(s, level, typed)
     }
@@ -212,7 +213,7 @@ impl State {
         ensures { λ r. ⌜ end r (now (rows .exit)) (now (cells .exit)) ≡ callees left .check d g t expected (machine (now (rows .entry)) (now (cells .entry)) self) ⌝ }
     {
         if left == 0 {
-            return Got::Refused(self, codes::NESTING);
+            return Got::Refused(self, refusals::NESTING);
         }
         let down = left - 1;
         let s0 = self.deeper(down);
@@ -228,7 +229,7 @@ impl State {
             let q2 = s2.convert(down, rows, cells, d, g, t, actual, expected, row);
             return ended_got(q2);
         }
-        Got::Refused(s1, codes::CONVERSIONS)
+        Got::Refused(s1, refusals::CONVERSIONS)
     }
 
     // A term of the one type has the other too; refuses (12) where their levels differ.
@@ -255,7 +256,7 @@ impl State {
             return q2.as_got();
         };
         if i != j {
-            return Got::Refused(s2, codes::LEVELS);
+            return Got::Refused(s2, refusals::LEVELS);
         }
         let q3 = s2.prepare(left, rows, cells, kinds::UNIVERSE, i, 0);
         let Got::Is(s3, u) = q3 else {
@@ -288,7 +289,7 @@ impl State {
             let q = s1.expose(left, rows, cells, d, g, t, ty, row);
             return ended_two(q);
         }
-        Two::Refused(self, codes::CONVERSIONS)
+        Two::Refused(self, refusals::CONVERSIONS)
     }
 
     // The type of a function, taken apart as a pi, and its row; refuses (9) another.
@@ -315,7 +316,7 @@ impl State {
         };
         let exposed = shape_of(cells, normal);
         let Shape::Pi(a, b) = exposed else {
-            return Function::Refused(s, codes::NO_FUNCTION);
+            return Function::Refused(s, refusals::NO_FUNCTION);
         };
         Function::Of(s, a, b, typed)
     }
@@ -344,7 +345,7 @@ impl State {
         };
         let exposed = shape_of(cells, normal);
         let Shape::Path(a, b, c) = exposed else {
-            return Four::Refused(s, codes::NO_PATH);
+            return Four::Refused(s, refusals::NO_PATH);
         };
         Four::Each(s, a, b, c, typed)
     }
@@ -362,7 +363,7 @@ impl State {
         ensures { λ r. ⌜ end-2 r (now (rows .exit)) (now (cells .exit)) ≡ callees left .infer d g t (machine (now (rows .entry)) (now (cells .entry)) self) ⌝ }
     {
         if left == 0 {
-            return Two::Refused(self, codes::NESTING);
+            return Two::Refused(self, refusals::NESTING);
         }
         let down = left - 1;
         let s0 = self.deeper(down);

@@ -5,6 +5,7 @@ use native.Mathlib.Omega.{arith}
 use mathlib.Core.List.{List, [], _∷_}
 use lib.Seq.{sets}
 use native.Mathlib.Numerals.{sub-one}
+use Rattle.walk.specs.Refusal as Refusal
 use Rattle.ast.specs.Words.{up}
 use Rattle.producer.specs.Machine.{Machine, give, stop, end-2}
 use Rattle.producer.specs.declared.state.Two.{Two}
@@ -12,7 +13,7 @@ use Rattle.producer.specs.declared.state.Two.the-variants.{Pair, Refused}
 use Rattle.run.specs.Run.{Told, told, turn-end, answered-of, turned, played}
 use Rattle.run.specs.Build.{built-body, built, scoped, scoped-body}
 
-pub built-none : (k : ℕ) (bytes : List ℕ) (at : ℕ) (w : Machine) → k ≡ 0 → built k bytes at w ≡ stop 3 w
+pub built-none : (k : ℕ) (bytes : List ℕ) (at : ℕ) (w : Machine) → k ≡ 0 → built k bytes at w ≡ stop Refusal.unread w
 unfolding built
 built-none k bytes at w h = rw h
 

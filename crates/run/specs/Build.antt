@@ -3,6 +3,7 @@ use Prim.Native.Nat.{ℕ, zero, suc}
 use mathlib.Core.List.{List}
 use lib.Dec.{eqb}
 use lib.ListN.{getD}
+use Rattle.walk.specs.Refusal as Refusal
 use Rattle.ast.specs.Words.{ifb, up}
 use Rattle.producer.specs.Machine.{W, _>>=_, give, stop, when_then_else_, intern}
 
@@ -52,11 +53,11 @@ built-body bytes B at =
     (when eqb (parts-of (byte-at bytes at)) 4 then built-two B (up at) (byte-at bytes at)
     else
     (when eqb (parts-of (byte-at bytes at)) 5 then built-three B (up at) (byte-at bytes at)
-    else stop 3))))
+    else stop Refusal.unread))))
 
 -- with `left` levels of depth allowed
 unfoldable pub built : ℕ → List ℕ → Builder
-built zero bytes at = stop 3
+built zero bytes at = stop Refusal.unread
 built (suc left) bytes at = built-body bytes (built left bytes) at
 
 -- a context g with `left` more types, which start at an offset; the limits let terms nest 33 deep

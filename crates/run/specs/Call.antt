@@ -7,6 +7,7 @@ use Rattle.ast.specs.Words.{up}
 use Rattle.producer.specs.Machine.{W, _>>=_, give, stop, when_then_else_, intern}
 use Rattle.producer.specs.Callees.{prepared}
 use Rattle.producer.specs.Calls.{callees}
+use Rattle.walk.specs.Refusal as Refusal
 use Rattle.walk.specs.Reader.{read-head}
 use Rattle.syntax.specs.declared.scan.Heading.{Heading}
 use Rattle.syntax.specs.declared.scan.Heading.the-variants.{Is, Bad}
@@ -58,7 +59,7 @@ with-context left bytes at code d count = do
 -- the call at an offset, with `left` entries allowed: in a run that was read, no head is bad
 unfoldable pub headed : Heading → ℕ → List ℕ → ℕ → W (ℕ × ℕ)
 headed (Is code d count) left bytes at = with-context left bytes (up (up (up at))) code d count
-headed (Bad place) left bytes at = stop 3
+headed (Bad place) left bytes at = stop Refusal.unread
 
 unfoldable pub called-in : ℕ → List ℕ → ℕ → W (ℕ × ℕ)
 called-in left bytes at = headed (head-of (read-head (drop at bytes) at)) left bytes at

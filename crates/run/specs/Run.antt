@@ -4,6 +4,7 @@ use mathlib.Core.List.{List, [], _∷_}
 use lib.Dec.{ltb}
 use lib.ListN.{length}
 use lib.Seq.{sets}
+use Rattle.walk.specs.Refusal as Refusal
 use Rattle.ast.specs.Words.{ifb, up}
 use Rattle.producer.specs.declared.state.State.{State}
 use Rattle.producer.specs.declared.state.Two.{Two}
@@ -56,8 +57,8 @@ told (not e w) next = record { number = e; row = 4294967295; result = 0; deepest
 unfoldable pub turned-by : Size → List ℕ → ℕ → Machine → Told
 turned-by (Fits n next) bytes at w = told (called bytes (low-of at) (machine (w .rows) (w .cells) (fresh (w .state)))) next
 turned-by (Refused number next) bytes at w = turn-end (refused-of (w .state) number next) (w .rows) (w .cells)
-turned-by (Bad place) bytes at w = turn-end (refused-of (w .state) 3 place) (w .rows) (w .cells)
-turned-by Short bytes at w = turn-end (refused-of (w .state) 3 at) (w .rows) (w .cells)
+turned-by (Bad place) bytes at w = turn-end (refused-of (w .state) Refusal.unread place) (w .rows) (w .cells)
+turned-by Short bytes at w = turn-end (refused-of (w .state) Refusal.unread at) (w .rows) (w .cells)
 
 -- the call at an offset, read over a stack of so many bytes
 unfoldable pub turned : ℕ → List ℕ → ℕ → Machine → Told
@@ -97,12 +98,12 @@ read-run calls p = end-run (record { number = 0; place = 0; calls = calls; rows 
 unfoldable pub run-by : Scanned → List ℕ → List ℕ → List ℕ → List ℕ → Ended
 run-by (Unread number place) bytes R C A = end-run (refused-run number place) R C A
 run-by (Calls limit calls) bytes R C A =
-    ifb (ltb (length A / 4) calls) (end-run (refused-run 4 0) R C A)
+    ifb (ltb (length A / 4) calls) (end-run (refused-run Refusal.answers 0) R C A)
     (read-run (low-of calls) (played (low-of calls) 131073 bytes 2 0 (machine R C (started limit (length R) (length C))) A))
 
 -- refusals 1 to 4, the lowest first; else the calls are played
 unfoldable pub run-of : List ℕ → List ℕ → List ℕ → List ℕ → Ended
 run-of bytes R C A =
-    ifb (ltb (length R) 24) (end-run (refused-run 1 0) R C A)
-    (ifb (ltb (length C) 8) (end-run (refused-run 1 0) R C A)
+    ifb (ltb (length R) 24) (end-run (refused-run Refusal.slices 0) R C A)
+    (ifb (ltb (length C) 8) (end-run (refused-run Refusal.slices 0) R C A)
     (run-by (scanned bytes) bytes R C A))

@@ -1,9 +1,11 @@
 // What is sent becomes cells: parts before the whole, the left part first, a context's rest before its last type.
-// The limits have been tested by then, so that a term nests at most 33 deep; one that nests deeper, and a byte that is no kind, stop with 3.
+// The limits have been tested by then, so that a term nests at most 33 deep; one that nests deeper, and a byte that is no kind,
+// are refused as unread, which is never met in a run that was read.
 ghost use mathlib.Core.Path.{_≡_};
 ghost use Rattle.producer.specs.Machine.{machine, end-2};
 ghost use Rattle.run.specs.Build.{byte-at, parts-of, built, built-one, built-two, built-three, scoped};
 use ast::kinds;
+use ast::refusals;
 use ast::words::succ;
 use producer::state::Got;
 use producer::state::State;
@@ -11,9 +13,6 @@ use producer::state::Two;
 
 // The deepest that a term nests, counted from 1.
 pub const DEPTH: u32 = 33;
-
-// A byte that is no kind for its spot: never met in a run that was read.
-pub const UNREAD: u32 = 3;
 
 pub(crate) fn wide(x: u8) -> u32
     ensures { λ r. ⌜ r ≡ x ⌝ }
@@ -59,7 +58,7 @@ pub fn build(state: State, left: u32, bytes: &[u8], at: u32, rows: &[u32], cells
     ensures { λ r. ⌜ end-2 r (now (rows .entry)) (now (cells .exit)) ≡ built left (now (bytes .entry)) at (machine (now (rows .entry)) (now (cells .entry)) state) ⌝ }
 {
     if left == 0 {
-        return Two::Refused(state, UNREAD);
+        return Two::Refused(state, refusals::UNREAD);
     }
     let down = left - 1;
     let kind = byte(bytes, at);
@@ -91,7 +90,7 @@ pub fn build(state: State, left: u32, bytes: &[u8], at: u32, rows: &[u32], cells
         }
         _ => {}
     }
-    Two::Refused(state, UNREAD)
+    Two::Refused(state, refusals::UNREAD)
 }
 
 // A cell with one part.

@@ -4,11 +4,11 @@ ghost use mathlib.Core.Path.{_≡_};
 ghost use Rattle.producer.specs.Machine.{machine, end-2};
 ghost use Rattle.run.specs.Call.{with-term, with-sides, by-code, with-context, called};
 use crate::build::DEPTH;
-use crate::build::UNREAD;
 use crate::build::build;
 use crate::build::scope;
 use crate::build::wide;
 use ast::kinds::NIL;
+use ast::refusals;
 use ast::words::succ;
 use producer::state::Got;
 use producer::state::State;
@@ -23,7 +23,7 @@ pub fn call(state: State, bytes: &[u8], at: u32, rows: &mut [u32], cells: &mut [
     let left = state.limit;
     let head = head_at(bytes, at as usize);
     let Heading::Is(code, dims, size) = head else {
-        return Two::Refused(state, UNREAD);
+        return Two::Refused(state, refusals::UNREAD);
     };
     let second = succ(at);
     let third = succ(second);

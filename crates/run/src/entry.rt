@@ -8,6 +8,7 @@ ghost use lib.ListN.{length};
 ghost use Rattle.run.specs.Contract.{Runs};
 ghost use Rattle.run.specs.Run.{low-of, at-most, started, refused-of, answered-of, turn-end, turned, play-end, played, refused-run, end-run, run-of};
 use crate::call::call;
+use ast::refusals;
 use ast::words::put;
 use ast::words::succ;
 use producer::state::State;
@@ -121,8 +122,8 @@ fn step(
             answered(q, next)
         }
         Size::Refused(number, next) => refused(state, number, next),
-        Size::Bad(place) => refused(state, 3, place),
-        Size::Short => refused(state, 3, at),
+        Size::Bad(place) => refused(state, refusals::UNREAD, place),
+        Size::Short => refused(state, refusals::UNREAD, at),
     }
 }
 
@@ -182,10 +183,10 @@ fn play_run(bytes: &[u8], rows: &mut [u32], cells: &mut [u32], answers: &mut [u3
     ensures { λ r. ⌜ end-run r (now (rows .exit)) (now (cells .exit)) (now (answers .exit)) ≡ run-of (now (bytes .entry)) (now (rows .entry)) (now (cells .entry)) (now (answers .entry)) ⌝ }
 {
     if rows.len() < 24 {
-        return no_run(1, 0);
+        return no_run(refusals::SLICES, 0);
     }
     if cells.len() < 8 {
-        return no_run(1, 0);
+        return no_run(refusals::SLICES, 0);
     }
     let scanned = scan_run(bytes);
     match scanned {
@@ -193,7 +194,7 @@ fn play_run(bytes: &[u8], rows: &mut [u32], cells: &mut [u32], answers: &mut [u3
         Scanned::Calls(limit, calls) => {
             let most = answers.len() / 4;
             if most < calls {
-                return no_run(4, 0);
+                return no_run(refusals::ANSWERS, 0);
             }
             let s = start(limit, rows.len(), cells.len());
             let count = low(calls);

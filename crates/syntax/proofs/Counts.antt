@@ -12,6 +12,7 @@ use types.Run.{OneOf}
 use denote.Enum.Declared.{tagOf}
 use lib.Dec.{ltb}
 use lib.ListN.{length, drop, getD}
+use Rattle.walk.specs.Refusal as Refusal
 use Rattle.walk.specs.Syntax.{Term}
 use Rattle.walk.specs.Reader.{Read, got, bad, read-on, _>>=_, ok, codes, terms-of, Head, Call, read-terms, read-head, read-call}
 use Rattle.walk.specs.Limits.{Sized, fits, scope-over, size-over, index-over, size-on, size-term, size-terms, size-call}
@@ -94,15 +95,15 @@ abbrev made : Head → List Term → List Term → Call
 made head types terms = record { code = head .code; dims = head .dims; types = types; terms = terms }
 
 module _ (bytes : List ℕ) (at : ℕ) (head : Head) where
-  pub call-over : (ltb 33 (head .dims) || ltb 33 (head .size)) ≡ true → Counts size-call (call-of (length bytes) head (drop at bytes) at) (Refused 5)
+  pub call-over : (ltb 33 (head .dims) || ltb 33 (head .size)) ≡ true → Counts size-call (call-of (length bytes) head (drop at bytes) at) (Refused Refusal.scope)
   unfolding _>>=_ read-on ok
   call-over t = first (terms-at (head .size) bytes at) refl
     where
-      second : (types : List Term) → length types ≡ head .size → (x : Read (List Term)) → Counts size-call (read-on x (λ terms. ok (made head types terms))) (Refused 5)
+      second : (types : List Term) → length types ≡ head .size → (x : Read (List Term)) → Counts size-call (read-on x (λ terms. ok (made head types terms))) (Refused Refusal.scope)
       second types l (got terms rest end) = rw (size-call-is (made head types terms) true (rw l t)) (unfold counted in refl)
       second types l (bad place) = tt
 
-      first : (x : Read (List Term)) → terms-at (head .size) bytes at ≡ x → Counts size-call (read-on x (λ types. read-terms (length bytes) (terms-of (head .code)) >>= λ terms. ok (made head types terms))) (Refused 5)
+      first : (x : Read (List Term)) → terms-at (head .size) bytes at ≡ x → Counts size-call (read-on x (λ types. read-terms (length bytes) (terms-of (head .code)) >>= λ terms. ok (made head types terms))) (Refused Refusal.scope)
       first (got types rest middle) e = second types (are-terms bytes (head .size) at e .many) (read-terms (length bytes) (terms-of (head .code)) rest middle)
       first (bad place) e = tt
 
@@ -133,12 +134,12 @@ module _ (bytes : List ℕ) (from code dims size : ℕ) (e : Is code dims size �
   size-is : size ≡ head .size
   size-is = T bytes from code dims size e .size
 
-  pub dims-over : 33 < dims → Counts size-call (call-at bytes from) (Refused 5)
+  pub dims-over : 33 < dims → Counts size-call (call-at bytes from) (Refused Refusal.scope)
   dims-over h =
       let l : 33 < head .dims = omega (arith, dims-is) in
       rw (call-here bytes from code dims size e) (call-over bytes (from + 3) head (rw (lt-ltb 33 (head .dims) l)))
 
-  pub size-over-33 : dims ≤ 33 → 33 < size → Counts size-call (call-at bytes from) (Refused 5)
+  pub size-over-33 : dims ≤ 33 → 33 < size → Counts size-call (call-at bytes from) (Refused Refusal.scope)
   size-over-33 k h =
       let m : head .dims ≤ 33 = omega (arith, dims-is) in
       let l : 33 < head .size = omega (arith, size-is) in

@@ -10,6 +10,7 @@ use borrow.Author.Tests.{lt-ltb, le-ltb, ltb-false, leb-false}
 use lib.Dec.{ltb, leb}
 use lib.ListN.{length, getD, drop, drop-of-length-le}
 use lib.Seq.{drop-cons}
+use Rattle.walk.specs.Refusal as Refusal
 use Rattle.syntax.specs.Parts.{Part, after, part, so-many, Lists, pushed, deeper}
 use Rattle.syntax.specs.declared.parts.Parts.{Parts}
 use Rattle.syntax.specs.declared.limits.Counted.{Counted}
@@ -56,7 +57,7 @@ module _ (bytes words : List ℕ) (nodes at d : ℕ) (h : 0 < d) where
     unfolding measure means
     turn = rw (drop-cons bytes at 0 l, piled-top means words d h)
 
-    pub turn-index-over : getD words (d - 1) 0 % 3 ≡ 0 → 32 < getD bytes at 0 → measure (drop at bytes) (piled means words d) nodes at ≡ Refused 7
+    pub turn-index-over : getD words (d - 1) 0 % 3 ≡ 0 → 32 < getD bytes at 0 → measure (drop at bytes) (piled means words d) nodes at ≡ Refused Refusal.index
     unfolding enter unless part
     turn-index-over z k = turn ∙ rw (z, lt-ltb 32 (getD bytes at 0) k)
 
@@ -65,7 +66,7 @@ module _ (bytes words : List ℕ) (nodes at d : ℕ) (h : 0 < d) where
     turn-index z k = turn ∙ rw (z, le-ltb 32 (getD bytes at 0) k, add-one at)
 
     module _ (z : getD words (d - 1) 0 % 3 ≡ 0 → ⊥) where
-      pub turn-over : (ltb 32 (getD words (d - 1) 0 / 3) || leb 10000 nodes) ≡ true → measure (drop at bytes) (piled means words d) nodes at ≡ Refused 6
+      pub turn-over : (ltb 32 (getD words (d - 1) 0 / 3) || leb 10000 nodes) ≡ true → measure (drop at bytes) (piled means words d) nodes at ≡ Refused Refusal.size
       unfolding unless
       turn-over t = turn ∙ enter-node _ _ _ _ _ z ∙ rw t
 

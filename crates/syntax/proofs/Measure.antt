@@ -7,6 +7,7 @@ use mathlib.Core.Bool.{Bool, true, false, _||_}
 use lib.Dec.{ltb, leb}
 use lib.ListN.{length, getD, drop}
 use Rattle.syntax.specs.Told.{term-at}
+use Rattle.walk.specs.Refusal as Refusal
 use Rattle.walk.specs.Syntax.{I0, I1, Dim, Neg, Meet, Join, Term, Universe, Var, Nat, Zero, Pi, Lam, App, Path, PathLam, PathApp}
 use Rattle.walk.specs.Reader.{Read, got, bad, Reader, read-on, _>>=_, ok, byte, meant, one-of, k-u, k-v, k-nat, k-zero, k-pi, k-lam, k-app, k-path, k-plam, k-papp, k-0, k-1, k-dim, k-neg, k-meet, k-join, kinds, ikinds, read-term, read-interval}
 use Rattle.walk.specs.Limits.{Sized, fits, scope-over, size-over, index-over, size-on, node, size-interval, size-term}
@@ -43,9 +44,9 @@ measure (b ∷ bs) (deep p depth ∷ ds) nodes at = enter p depth b nodes (λ ne
 -- Go on where the size fits.
 unfoldable on-fit : Sized → (ℕ → Counted) → Counted
 on-fit (fits n) f = f n
-on-fit scope-over f = Refused 5
-on-fit size-over f = Refused 6
-on-fit index-over f = Refused 7
+on-fit scope-over f = Refused Refusal.scope
+on-fit size-over f = Refused Refusal.size
+on-fit index-over f = Refused Refusal.index
 
 on-fit-on : (s : Sized) (f : ℕ → Sized) (g : ℕ → Counted) → on-fit (size-on s f) g ≡ on-fit s (λ n. on-fit (f n) g)
 unfolding on-fit size-on

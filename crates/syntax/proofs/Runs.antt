@@ -7,6 +7,7 @@ use native.Mathlib.Omega.{arith}
 use native.Mathlib.Nat.{zero-add, suc-add, add-suc, add-zero}
 use native.Mathlib.Numerals.{add-one}
 use lib.ListN.{length, drop}
+use Rattle.walk.specs.Refusal as Refusal
 use Rattle.walk.specs.Reader.{Read, got, bad, read-on, _>>=_, ok, Call, read-calls, read-limit, read-run}
 use Rattle.syntax.specs.Told.{call-at, next-of, next-in, limit-of, counted, told}
 use Rattle.syntax.specs.Ends.{Stops, ends, goes-call}
@@ -50,7 +51,7 @@ calls-on t bytes limit (suc m) n at p h l e = go (past-call t bytes at p e)
     go : (call : Call) × (call-at bytes at ≡ got call (drop p bytes) p) × (at + 3 ≤ p) → (m′ : ℕ) × (length bytes ≤ p + m′) × (counted limit n (read-calls (length bytes) (suc m) (drop at bytes) at) ≡ counted limit (n + 1) (read-calls (length bytes) m′ (drop p bytes) p))
     go q = (m, omega arith, rw (read-more (length bytes) m bytes at h, q .1) (more limit n (q .0) (read-calls (length bytes) m (drop p bytes) p)))
 
-pub calls-bad : (t : Bool) (bytes : List ℕ) (limit m n at p : ℕ) → at < length bytes → length bytes ≤ at + m → Bad p ≡ next-in t (call-at bytes at) → counted limit n (read-calls (length bytes) m (drop at bytes) at) ≡ Refused 3 p
+pub calls-bad : (t : Bool) (bytes : List ℕ) (limit m n at p : ℕ) → at < length bytes → length bytes ≤ at + m → Bad p ≡ next-in t (call-at bytes at) → counted limit n (read-calls (length bytes) m (drop at bytes) at) ≡ Refused Refusal.unread p
 unfolding read-on counted
 calls-bad t bytes limit zero n at p h l e = absurd (let z : ⊥ = omega arith in z)
 calls-bad t bytes limit (suc m) n at p h l e = rw (read-more (length bytes) m bytes at h, worse t (call-at bytes at) p e)
@@ -63,11 +64,11 @@ pub room : (n w : ℕ) → n ≤ 65536 → w ≡ 131073 → 2 * n + 1 ≤ w
 room n w h e = omega arith
 
 -- the header, then the calls
-pub run-bad : (bytes : List ℕ) (p : ℕ) → NoLimit p ≡ limit-of (read-limit bytes 0) → told (read-run bytes) ≡ Refused 3 p
+pub run-bad : (bytes : List ℕ) (p : ℕ) → NoLimit p ≡ limit-of (read-limit bytes 0) → told (read-run bytes) ≡ Refused Refusal.unread p
 unfolding read-run _>>=_
 run-bad bytes p e = go (read-limit bytes 0) e
   where
-    go : (r : Read ℕ) → NoLimit p ≡ limit-of r → told (read-on r (λ limit. read-calls (length bytes) (length bytes) >>= λ calls. ok (limit, calls))) ≡ Refused 3 p
+    go : (r : Read ℕ) → NoLimit p ≡ limit-of r → told (read-on r (λ limit. read-calls (length bytes) (length bytes) >>= λ calls. ok (limit, calls))) ≡ Refused Refusal.unread p
     go (got limit bs at) e = absurd (unfold limit-of in let z : _≡_ {A = ℕ} 0 1 = cc in omega arith)
     go (bad place) e = unfold limit-of read-on told in let q : place ≡ p = cc in rw q
 

@@ -4,6 +4,7 @@ use mathlib.Core.Path.{_≡_}
 use mathlib.Core.List.{List, [], _∷_}
 use mathlib.Core.Option.{Option, none, some}
 use lib.ListN.{getD, set}
+use Rattle.walk.specs.Refusal as Refusal
 use Rattle.walk.specs.Reader.{Read, got, bad, Kind, k-u, k-v, k-nat, k-zero, k-pi, k-lam, k-app, k-path, k-plam, k-papp, IKind, k-0, k-1, k-dim, k-neg, k-meet, k-join, kinds, ikinds}
 use Rattle.walk.specs.Limits.{Sized, fits, scope-over, size-over, index-over}
 use Rattle.syntax.specs.declared.parts.Parts.{Parts}
@@ -92,9 +93,9 @@ deeper p depth = record { n = p .n; low = p .low + 3 * depth; mid = p .mid + 3 *
 -- What that pass answers where something is read; elsewhere it may answer anything.
 unfoldable pub counted : Sized → ℕ → Counted
 counted (fits nodes) next = Nodes nodes next
-counted scope-over next = Refused 5
-counted size-over next = Refused 6
-counted index-over next = Refused 7
+counted scope-over next = Refused Refusal.scope
+counted size-over next = Refused Refusal.size
+counted index-over next = Refused Refusal.index
 
 abbrev pub Counts : {A : Type 0} → (A → Sized) → Read A → Counted → Type 0
 Counts size (got a rest next) r = r ≡ counted (size a) next

@@ -5,6 +5,7 @@ use mathlib.Core.Bool.{Bool, true, false}
 use mathlib.Core.Option.{Option, none, some}
 use lib.Dec.{ltb}
 use lib.ListN.{length, drop}
+use Rattle.walk.specs.Refusal as Refusal
 use Rattle.walk.specs.Syntax.{Term}
 use Rattle.walk.specs.Reader.{Read, got, bad, Code, c-context, c-universe, c-infer, c-check, c-normalise, c-equal, terms-of, Head, Call, read-term, read-terms, read-call, read-run}
 use Rattle.walk.specs.Limits.{Sized, fits, scope-over, size-over, index-over, size-call}
@@ -70,14 +71,14 @@ limit-of (bad place) = NoLimit place
 -- The calls that are read, after so many.
 unfoldable pub counted : ℕ → ℕ → Read (List Call) → Scanned
 counted limit n (got calls rest at) = Calls limit (n + length calls)
-counted limit n (bad place) = RefusedRun 3 place
+counted limit n (bad place) = RefusedRun Refusal.unread place
 
 unfoldable pub told : Read (ℕ × List Call) → Scanned
 told (got (limit, calls) rest at) = Calls limit (length calls)
-told (bad place) = RefusedRun 3 place
+told (bad place) = RefusedRun Refusal.unread place
 
 unfoldable pub unless-long : Bool → Scanned → Scanned
-unless-long true s = RefusedRun 2 0
+unless-long true s = RefusedRun Refusal.bytes 0
 unless-long false s = s
 
 abbrev pub scanned : List ℕ → Scanned
@@ -87,9 +88,9 @@ scanned bytes = unless-long (ltb 65536 (length bytes)) (told (read-run bytes))
 
 unfoldable pub sized : Sized → ℕ → Size
 sized (fits nodes) next = Fits nodes next
-sized scope-over next = Refused 5 next
-sized size-over next = Refused 6 next
-sized index-over next = Refused 7 next
+sized scope-over next = Refused Refusal.scope next
+sized size-over next = Refused Refusal.size next
+sized index-over next = Refused Refusal.index next
 
 unfoldable pub size-of : Read Call → Size
 size-of (got call rest next) = sized (size-call call) next

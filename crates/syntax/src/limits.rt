@@ -18,6 +18,7 @@ use super::scan::Next;
 use super::scan::skip_call;
 use super::scan::terms_of;
 use super::scan::wide;
+use ast::refusals;
 
 // The nodes of a call, or its refusal's number, and the offset past it; the place of a fault; or no room for the stack.
 pub enum Size {
@@ -64,13 +65,13 @@ fn size_term(s: &[u8], from: usize, before: usize, stack: &mut [u8]) -> Counted
         let depth = word / 3;
         if part == INDEX {
             if 32 < b {
-                return Counted::Refused(7);
+                return Counted::Refused(refusals::INDEX);
             }
             height = top;
             at = at + 1;
         } else {
             if limits(depth, nodes) {
-                return Counted::Refused(6);
+                return Counted::Refused(refusals::SIZE);
             }
             let p = parts_after(part, b);
             let n = p.n;
@@ -115,10 +116,10 @@ fn count_call(s: &[u8], from: usize, stack: &mut [u8]) -> Counted
         Heading::Bad(_) => Counted::Bad,
         Heading::Is(code, dims, size) => {
             if 33 < dims {
-                return Counted::Refused(5);
+                return Counted::Refused(refusals::SCOPE);
             }
             if 33 < size {
-                return Counted::Refused(5);
+                return Counted::Refused(refusals::SCOPE);
             }
             let count = wide(size) + terms_of(code);
             size_terms(s, from + 3, count, stack)

@@ -10,6 +10,7 @@ use super::cursor::head_at;
 use super::parts::TERM;
 use super::parts::parts_after;
 use super::parts::push;
+use ast::refusals;
 
 // The offset past what was read, the place of a fault, or no room: the stack has under 2 * length + 1 bytes.
 pub enum Next {
@@ -173,10 +174,10 @@ fn count_calls(s: &[u8], limit: usize) -> Scanned
                 at = p;
             }
             Next::Bad(p) => {
-                return Scanned::Refused(3, p);
+                return Scanned::Refused(refusals::UNREAD, p);
             }
             Next::Short => {
-                return Scanned::Refused(2, 0);
+                return Scanned::Refused(refusals::BYTES, 0);
             }
         }
         calls = calls + 1;
@@ -189,11 +190,11 @@ pub fn scan_run(s: &[u8]) -> Scanned
     ensures { λ r. ⌜ r ≡ scanned (now (s .entry)) ⌝ }
 {
     if 65536 < s.len() {
-        return Scanned::Refused(2, 0);
+        return Scanned::Refused(refusals::BYTES, 0);
     }
     let limit = read_limit(s);
     match limit {
-        Limit::Bad(p) => Scanned::Refused(3, p),
+        Limit::Bad(p) => Scanned::Refused(refusals::UNREAD, p),
         Limit::Is(n) => count_calls(s, n),
     }
 }

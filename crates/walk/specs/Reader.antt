@@ -42,6 +42,7 @@ one-of table (b ∷ bs) at = meant (getD table b none) bs at
 
 pub data Kind : Type 0 where
   k-u k-v k-nat k-zero k-pi k-lam k-app k-path k-plam k-papp : Kind
+  deriving Discrete as Kind-discrete
 
 pub data IKind : Type 0 where
   k-0 k-1 k-dim k-neg k-meet k-join : IKind

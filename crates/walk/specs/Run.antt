@@ -6,6 +6,7 @@ use native.Mathlib.Decide.{ℕ-discrete}
 use lib.Dec.{ltb}
 use lib.ListN.{length, getD}
 use Rattle.walk.specs.Syntax.{Term, Nat, Context, Nil, Cons}
+use Rattle.walk.specs.Refusal as Refusal
 use Rattle.walk.specs.State.{State, Outcome, done, refused, with-deepest}
 use Rattle.walk.specs.Walk.{Callees, callees}
 use Rattle.walk.specs.Reader.{Read, got, bad, Code, Code-discrete, c-context, c-universe, c-infer, c-check, c-normalise, c-equal, Call, read-run}
@@ -52,9 +53,9 @@ walk c c-equal d g ts s = answered (λ row. row) (λ row. no-result) (c .equal d
 
 -- Under 5, 6 and 7 nothing is walked.
 unfoldable pub play-sized : Sized → Call → State → Answer × State
-play-sized scope-over call s = (refusal 5 0, s)
-play-sized size-over call s = (refusal 6 0, s)
-play-sized index-over call s = (refusal 7 0, s)
+play-sized scope-over call s = (refusal Refusal.scope 0, s)
+play-sized size-over call s = (refusal Refusal.size 0, s)
+play-sized index-over call s = (refusal Refusal.index 0, s)
 play-sized (fits n) call s = walk (callees (s .limit)) (call .code) (call .dims) (scope-of Nil (call .types)) (call .terms) (with-deepest 0 s)
 
 unfoldable pub play : Call → State → Answer × State
@@ -91,10 +92,10 @@ played limit calls (answers, s) = record { number = 0; place = 0; limit = limit;
 
 -- 3, then 4
 unfoldable pub run-read : ℕ → ℕ → ℕ → Read (ℕ × List Call) → Ran
-run-read row-words cell-words answer-words (bad place) = refused-run 3 place
+run-read row-words cell-words answer-words (bad place) = refused-run Refusal.unread place
 run-read row-words cell-words answer-words (got (limit, calls) rest at) =
     elim (ltb answer-words (4 * length calls)) [
-      | true ↦ refused-run 4 0
+      | true ↦ refused-run Refusal.answers 0
       | false ↦ played limit calls (play-all calls (start limit row-words cell-words))
     ]
 
@@ -102,9 +103,9 @@ run-read row-words cell-words answer-words (got (limit, calls) rest at) =
 unfoldable pub run : ℕ → ℕ → ℕ → List ℕ → Ran
 run row-words cell-words answer-words bytes =
     elim (ltb row-words 24 || ltb cell-words 8) [
-      | true ↦ refused-run 1 0
+      | true ↦ refused-run Refusal.slices 0
       | false ↦ elim (ltb 65536 (length bytes)) [
-        | true ↦ refused-run 2 0
+        | true ↦ refused-run Refusal.bytes 0
         | false ↦ run-read row-words cell-words answer-words (read-run bytes)
       ]
     ]

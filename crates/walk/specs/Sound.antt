@@ -10,8 +10,9 @@ pub mod Contexts
 pub mod Typing
 pub mod Equality
 use Prim.Native.Nat.{ℕ, suc}
+use mathlib.Core.Path.{refl}
 use lib.Dec.{lit<}
-use Rattle.walk.specs.Walk.{Callees, none-left, entered, callees}
+use Rattle.walk.specs.Walk.{Callees, none-left, entered, callees-by, one-more, callees}
 use Rattle.walk.specs.Sound.Logic.{lift, refusing, entering}
 use Rattle.walk.specs.Sound.Says.{Sound}
 use Rattle.walk.specs.Sound.Numbers.{comparison-sound, max-sound}
@@ -40,30 +41,32 @@ entered-sound n c S = record {
   interval = λ d r. entering n _ λ _ _. interval-sound c S d r;
   comparison = λ m k strict. entering n _ λ _ _. comparison-sound c S m k strict;
   max = λ m k. entering n _ λ _ _. max-sound c S m k;
+  more = S .more;
 }
 
-none-left-sound : Sound none-left
-unfolding none-left
+none-left-sound : Sound (none-left one-more)
+unfolding none-left one-more
 none-left-sound = record {
-  ctx = λ d g. refusing 19 (lit< tt);
-  infer = λ d g t. refusing 19 (lit< tt);
-  universe = λ d g t. refusing 19 (lit< tt);
-  check = λ d g t ty. refusing 19 (lit< tt);
-  expose = λ d g t ty x h. refusing 19 (lit< tt);
-  normalize = λ d g t ty. refusing 19 (lit< tt);
-  equal = λ d g a b ty. refusing 19 (lit< tt);
-  reduce = λ d g t. refusing 19 (lit< tt);
-  lookup = λ g k. refusing 19 (lit< tt);
-  dshiftctx = λ g. refusing 19 (lit< tt);
-  transform = λ t op. refusing 19 (lit< tt);
-  itransform = λ r op. refusing 19 (lit< tt);
-  under = λ op dimension. refusing 19 (lit< tt);
-  interval = λ d r. refusing 19 (lit< tt);
-  comparison = λ m k strict. refusing 19 (lit< tt);
-  max = λ m k. refusing 19 (lit< tt);
+  ctx = λ d g. refusing (lit< tt);
+  infer = λ d g t. refusing (lit< tt);
+  universe = λ d g t. refusing (lit< tt);
+  check = λ d g t ty. refusing (lit< tt);
+  expose = λ d g t ty x h. refusing (lit< tt);
+  normalize = λ d g t ty. refusing (lit< tt);
+  equal = λ d g a b ty. refusing (lit< tt);
+  reduce = λ d g t. refusing (lit< tt);
+  lookup = λ g k. refusing (lit< tt);
+  dshiftctx = λ g. refusing (lit< tt);
+  transform = λ t op. refusing (lit< tt);
+  itransform = λ r op. refusing (lit< tt);
+  under = λ op dimension. refusing (lit< tt);
+  interval = λ d r. refusing (lit< tt);
+  comparison = λ m k strict. refusing (lit< tt);
+  max = λ m k. refusing (lit< tt);
+  more = λ n. refl;
 }
 
 pub sound : (n : ℕ) → Sound (callees n)
-unfolding callees
+unfolding callees callees-by
 sound ℕ.zero = none-left-sound
 sound (ℕ.suc n) = entered-sound n (callees n) (sound n)

@@ -9,7 +9,8 @@ pub mod Typing
 pub mod Equality
 use Prim.Native.Nat.{ℕ, suc}
 use mathlib.Core.List.{[], _++_}
-use Rattle.walk.specs.State.{refuse, of-interval, of-term, of-context, enter}
+use Rattle.walk.specs.Refusal as Refusal
+use Rattle.walk.specs.State.{M, pure, refuse, of-interval, of-term, of-context, enter}
 unfoldable pub use Reference.*
 unfoldable pub use Numbers.*
 unfoldable pub use Intervals.*
@@ -19,24 +20,25 @@ unfoldable pub use Typing.*
 unfoldable pub use Equality.*
 
 -- with nothing left each is refused
-unfoldable pub none-left : Callees
-none-left = record {
-  ctx = λ d g. refuse 19;
-  infer = λ d g t. refuse 19;
-  universe = λ d g t. refuse 19;
-  check = λ d g t ty. refuse 19;
-  expose = λ d g t ty row. refuse 19;
-  normalize = λ d g t ty. refuse 19;
-  equal = λ d g a b ty. refuse 19;
-  reduce = λ d g t. refuse 19;
-  lookup = λ g n. refuse 19;
-  dshiftctx = λ g. refuse 19;
-  transform = λ t op. refuse 19;
-  itransform = λ r op. refuse 19;
-  under = λ op dimension. refuse 19;
-  interval = λ d r. refuse 19;
-  comparison = λ m n strict. refuse 19;
-  max = λ m n. refuse 19;
+unfoldable pub none-left : (ℕ → M ℕ) → Callees
+none-left more = record {
+  ctx = λ d g. refuse Refusal.nesting;
+  infer = λ d g t. refuse Refusal.nesting;
+  universe = λ d g t. refuse Refusal.nesting;
+  check = λ d g t ty. refuse Refusal.nesting;
+  expose = λ d g t ty row. refuse Refusal.nesting;
+  normalize = λ d g t ty. refuse Refusal.nesting;
+  equal = λ d g a b ty. refuse Refusal.nesting;
+  reduce = λ d g t. refuse Refusal.nesting;
+  lookup = λ g n. refuse Refusal.nesting;
+  dshiftctx = λ g. refuse Refusal.nesting;
+  transform = λ t op. refuse Refusal.nesting;
+  itransform = λ r op. refuse Refusal.nesting;
+  under = λ op dimension. refuse Refusal.nesting;
+  interval = λ d r. refuse Refusal.nesting;
+  comparison = λ m n strict. refuse Refusal.nesting;
+  max = λ m n. refuse Refusal.nesting;
+  more = more;
 }
 
 -- entered with n left below: the arguments are counted, left to right, and the body runs over what is left
@@ -58,8 +60,17 @@ entered n c = record {
   interval = λ d r. enter n (of-interval r) (interval-body c d r);
   comparison = λ m k strict. enter n [] (comparison-body c m k strict);
   max = λ m k. enter n [] (max-body c m k);
+  more = c .more;
 }
 
+-- with n entries left, and numbers made by `more`
+unfoldable pub callees-by : (ℕ → M ℕ) → ℕ → Callees
+callees-by more ℕ.zero = none-left more
+callees-by more (ℕ.suc n) = entered n (callees-by more n)
+
+-- the walk: the number after n is n + 1
+unfoldable pub one-more : ℕ → M ℕ
+one-more n = pure (suc n)
+
 unfoldable pub callees : ℕ → Callees
-callees ℕ.zero = none-left
-callees (ℕ.suc n) = entered n (callees n)
+callees n = callees-by one-more n

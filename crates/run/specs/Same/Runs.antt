@@ -12,6 +12,7 @@ use Rattle.ast.specs.Words.{ifb, up}
 use Rattle.producer.specs.Machine.{Machine, machine, Result, is, not, W, next as on, _>>=_, give}
 use Rattle.producer.specs.Callees.{Callees}
 use Rattle.producer.specs.Calls.{callees}
+use Rattle.walk.specs.Refusal as Refusal
 use Rattle.walk.specs.Syntax.{Term, Context, Nil}
 use Rattle.walk.specs.Reader.{Read, got, bad, Code, c-context, c-universe, c-infer, c-check, c-normalise, c-equal, Call, read-run}
 use Rattle.walk.specs.Limits.{Sized, fits, scope-over, size-over, index-over, size-call}
@@ -143,17 +144,17 @@ module _ (bytes rows cells answers : List ℕ) where
     unfolding run-by run-read
     all-read = rw (enough (length calls)) (go (ltb (length answers) (4 * length calls)) refl)
       where
-        go : (b : Bool) → ltb (length answers) (4 * length calls) ≡ b → ifb b (end-run (refused-run 4 0) rows cells answers) (ended-read (low-of (length calls)) (played (low-of (length calls)) 131073 bytes 2 0 (machine rows cells (started limit (length rows) (length cells))) answers)) ≡ ended (elim b as (λ _. Ran) [ true ↦ R.refused-run 4 0 | false ↦ R.played limit calls (R.play-all calls (R.start limit (length rows) (length cells))) ]) rows cells answers
-        go true e = refused-is 4 0 (omega arith)
+        go : (b : Bool) → ltb (length answers) (4 * length calls) ≡ b → ifb b (end-run (refused-run Refusal.answers 0) rows cells answers) (ended-read (low-of (length calls)) (played (low-of (length calls)) 131073 bytes 2 0 (machine rows cells (started limit (length rows) (length cells))) answers)) ≡ ended (elim b as (λ _. Ran) [ true ↦ R.refused-run Refusal.answers 0 | false ↦ R.played limit calls (R.play-all calls (R.start limit (length rows) (length cells))) ]) rows cells answers
+        go true e = refused-is _ 0 (omega arith)
         go false e = all-played (omega (arith, ltb-false (length answers) (4 * length calls) e))
 
   pub run-is : run-of bytes rows cells answers ≡ ended (run (length rows) (length cells) (length answers) bytes) rows cells answers
   unfolding run-of run run-by run-read unless-long scan-told
   run-is = go (ltb (length rows) 24) (ltb (length cells) 8) (ltb 65536 (length bytes)) refl (read-run bytes) refl
     where
-      go : (a b c : Bool) → ltb 65536 (length bytes) ≡ c → (r : Read (ℕ × List Call)) → read-run bytes ≡ r → ifb a (end-run (refused-run 1 0) rows cells answers) (ifb b (end-run (refused-run 1 0) rows cells answers) (run-by (unless-long c (scan-told r)) bytes rows cells answers)) ≡ ended (elim (a || b) as (λ _. Ran) [ true ↦ R.refused-run 1 0 | false ↦ elim c as (λ _. Ran) [ true ↦ R.refused-run 2 0 | false ↦ run-read (length rows) (length cells) (length answers) r ] ]) rows cells answers
-      go true b c q r e = refused-is 1 0 (omega arith)
-      go false true c q r e = refused-is 1 0 (omega arith)
-      go false false true q r e = refused-is 2 0 (omega arith)
-      go false false false q (bad place) e = refused-is 3 place (omega (arith, run-fault bytes e, ltb-false 65536 (length bytes) q))
+      go : (a b c : Bool) → ltb 65536 (length bytes) ≡ c → (r : Read (ℕ × List Call)) → read-run bytes ≡ r → ifb a (end-run (refused-run Refusal.slices 0) rows cells answers) (ifb b (end-run (refused-run Refusal.slices 0) rows cells answers) (run-by (unless-long c (scan-told r)) bytes rows cells answers)) ≡ ended (elim (a || b) as (λ _. Ran) [ true ↦ R.refused-run Refusal.slices 0 | false ↦ elim c as (λ _. Ran) [ true ↦ R.refused-run Refusal.bytes 0 | false ↦ run-read (length rows) (length cells) (length answers) r ] ]) rows cells answers
+      go true b c q r e = refused-is _ 0 (omega arith)
+      go false true c q r e = refused-is _ 0 (omega arith)
+      go false false true q r e = refused-is _ 0 (omega arith)
+      go false false false q (bad place) e = refused-is _ place (omega (arith, run-fault bytes e, ltb-false 65536 (length bytes) q))
       go false false false q (got (limit, calls) rest end) e = all-read (ltb-false 65536 (length bytes) q) limit calls (read-is bytes e)

@@ -30,7 +30,7 @@ module _ (c : Callees) (S : Sound c) where
 
   pub lookup-sound : {rs : List Row} (g : Context) (n : ℕ) → Keeps rs (lookup-body c g n) (λ o. At (o .1) (lookup (quotes g) n (quote (o .0))))
   unfolding lookup-body
-  lookup-sound Nil n = refusing 8 (lit< tt)
+  lookup-sound Nil n = refusing (lit< tt)
   lookup-sound (Cons a g) ℕ.zero =
       bind (S .transform a (Shift 0)) λ o₁ _ _ h₁. bind (counting (of-term (o₁ .0))) λ _ _ e₂ _.
       bind (emitted (lift e₂ h₁ also none-cited) by·lookup·z) λ row _ _ h. giving (o₁ .0, row) λ _ e. lift e h

@@ -1,6 +1,6 @@
 -- The rows of normalize, equal and reduce state what they should.
 use Prim.Native.Nat.{ℕ, suc}
-use mathlib.Core.Path.{subst as along, _≡_}
+use mathlib.Core.Path.{subst as along, _≡_, ap}
 use mathlib.Core.List.{List, [], _∷_}
 use mathlib.Core.Option.{none}
 use lib.Dec.{lit<}
@@ -60,12 +60,12 @@ module _ (c : Callees) (S : Sound c) where
   reduce-sound d g (PathApp p r) =
       bind (S .infer d g p) λ o₀ _ _ h₀. bind (as-path-sound c S d g p (o₀ .0) (o₀ .1) h₀) λ o₁ _ _ h₁. bind (S .transform (o₁ .0) (DSubst 0 r)) λ o₂ _ e₂ h₂.
       cases (plam-body p)
-      (λ body q. pbeta-sound d g p r body (o₁ .0) (o₁ .1) (o₁ .2) (o₂ .0) (o₁ .3) (o₂ .1) (plam-is p body q) (lift e₂ h₁) h₂)
+      (λ body q. pbeta-sound d g p r body (o₁ .0) (o₁ .1) (o₁ .2) (o₂ .0) (o₁ .3) (o₂ .1) (ap quote (plam-is p body q)) (lift e₂ h₁) h₂)
       (λ _. ends-sound d g p r (o₁ .0) (o₁ .1) (o₁ .2) (o₂ .0) (o₁ .3) (o₂ .1) (lift e₂ h₁) h₂)
 
   rounds-sound : {rs : List Row} (left d : ℕ) (g : Context) (t ty current : Term) (x : ℕ) → At x (equation d g t current ty) rs → Keeps rs (rounds left c d g t ty current x) (λ o. At (o .1) (equation d g t (o .0) ty))
   unfolding rounds
-  rounds-sound ℕ.zero d g t ty current x hx = bind (S .reduce d g current) λ o _ e₁ _. cases o (λ _ _. refusing 15 (lit< tt)) (λ _. giving (current, x) λ _ e. lift e (lift e₁ hx))
+  rounds-sound ℕ.zero d g t ty current x hx = bind (S .reduce d g current) λ o _ e₁ _. cases o (λ _ _. refusing (lit< tt)) (λ _. giving (current, x) λ _ e. lift e (lift e₁ hx))
   rounds-sound (ℕ.suc left) d g t ty current x hx =
       bind (S .reduce d g current) λ o rs₁ e₁ h₁.
       cases o
@@ -73,7 +73,7 @@ module _ (c : Callees) (S : Sound c) where
       (λ q′. bind (S .check d g (step .term) ty) λ _ _ e₂ _.
       let h : At (step .row) (equation d g current (step .term) (step .type)) rs₁ = along (λ o. Stepped d g current o rs₁) q h₁ in
       bind (emitted (lift e₂ (lift e₁ hx) also lift e₂ (rw q′ at h) also none-cited) by·eq·trans) λ y _ _ h₃. rounds-sound left d g t ty (step .term) y h₃)
-      (λ _. refusing 14 (lit< tt)))
+      (λ _. refusing (lit< tt)))
       (λ _. giving (current, x) λ _ e. lift e (lift e₁ hx))
 
   pub normalize-sound : {rs : List Row} (d : ℕ) (g : Context) (t ty : Term) → Keeps rs (normalize-body c d g t ty) (λ o. At (o .1) (equation d g t (o .0) ty))
@@ -89,4 +89,4 @@ module _ (c : Callees) (S : Sound c) where
       (λ _. bind (S .normalize d g a ty) λ o₃ _ _ h₃. bind (S .normalize d g b ty) λ o₄ _ e₄ h₄.
       branch (quote? (quote (o₃ .0)) (quote (o₄ .0)))
       (λ q. bind (emitted (h₄ also none-cited) by·eq·sym) λ _ _ e₅ h₅. emitted (lift e₅ (lift e₄ (rw q at h₃)) also h₅ also none-cited) by·eq·trans)
-      (λ _. refusing 13 (lit< tt)))
+      (λ _. refusing (lit< tt)))

@@ -10,7 +10,7 @@ use Rattle.walk.specs.Rules.{Follows, by·interval·0, by·interval·1, 
 use Rattle.walk.specs.State.{of-interval, Row}
 use Rattle.walk.specs.Walk.{IOp, IShift, ISubst, Callees, itransformed, by-iop, ifinish, idim-above, idim, itransform-body, interval-body}
 use Rattle.walk.specs.Demand.{At, Cites, none-cited, _also_}
-use Rattle.walk.specs.Sound.Logic.{lift, lifts, bind, refusing, giving, branch, emitted, counting, Keeps}
+use Rattle.walk.specs.Sound.Logic.{lift, lifts, bind, refusing, making, giving, branch, emitted, counting, Keeps}
 use Rattle.walk.specs.Sound.Says.{Sound}
 use Rattle.walk.specs.Rule as R
 
@@ -43,14 +43,14 @@ ifinished r op out cs f = bind (counting (of-interval out)) λ _ _ e₁ _. bind 
 module _ (c : Callees) (S : Sound c) where
   idim-above-sound : {rs : List Row} (n k : ℕ) (q : Interval) → Keeps rs (idim-above c n k q) (λ o. At (o .1) (isubst (Dim n) k q (o .0)))
   unfolding idim-above
-  idim-above-sound ℕ.zero k q = refusing 17 (lit< tt)
+  idim-above-sound ℕ.zero k q = refusing (lit< tt)
   idim-above-sound (ℕ.suc n) k q = bind (S .comparison k (suc n) true) λ x _ _ h. ifinished (Dim (suc n)) (ISubst k q) (Dim n) (h also none-cited) by·isubst·dim·gt
 
   idim-sound : {rs : List Row} (n : ℕ) (op : IOp) → Keeps rs (idim c n op) (λ o. At (o .1) (itransformed (Dim n) op (o .0)))
   unfolding idim
   idim-sound n (IShift k) = branch (decLt n k)
       (λ _. bind (S .comparison n k true) λ x _ _ h. ifinished (Dim n) (IShift k) (Dim n) (h also none-cited) by·ishift·dim·lt)
-      (λ _. bind (S .comparison k n false) λ x _ _ h. ifinished (Dim n) (IShift k) (Dim (suc n)) (h also none-cited) by·ishift·dim·ge)
+      (λ _. bind (S .comparison k n false) λ x _ _ h. making _ n (S .more n) (ifinished (Dim n) (IShift k) (Dim (suc n)) (h also none-cited) by·ishift·dim·ge))
   idim-sound n (ISubst k q) = branch (ℕ-discrete n k)
       (λ e. ifinished (Dim n) (ISubst k q) q none-cited (rw e by·isubst·dim·hit))
       (λ _. branch (decLt n k)

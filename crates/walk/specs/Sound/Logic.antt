@@ -1,6 +1,6 @@
 -- Every row follows by its rule from rows below it, and no judgment has two; what is remembered stands there.
 -- `Keeps rs m Q`: m keeps this, from any table that has the rows rs, and of its value Q holds.
-use Prim.Native.Nat.{ℕ, _<_, _+_}
+use Prim.Native.Nat.{ℕ, suc, _<_, _+_}
 use mathlib.Core.Path.{_≡_, refl, subst}
 use mathlib.Core.List.{List, [], _∷_, _++_}
 use mathlib.Core.Option.{Option, none, some}
@@ -13,6 +13,7 @@ use Rattle.walk.specs.Syntax.{Term, quote, quotes}
 use Rattle.walk.specs.Judgment.{Judgment, judgment?, has}
 use Rattle.walk.specs.Rules.{Follows}
 use Rattle.walk.specs.Demand.{At, here, there, Cites, none-cited, _also_, Extends, same, more}
+use Rattle.walk.specs.Refusal as Refusal
 use Rattle.walk.specs.State.{Row, Memory, Key, key, key?, Thing, inference, State, Outcome, done, refused, M, go-on, looking, _>>=_, pure, refuse, if_then_else_, from_get_or_, row-of, with-row, push, emit, among, with-cell, count, count-all, recall, with-memory, store, remember, with-conversions, ended, converted, converting, with-deepest, note, enter}
 
 -- a row over the rows below it
@@ -86,9 +87,14 @@ pub bind : {A B : Type 0} {rs : List Row} {Q : A → List Row → Type 0} {R : B
 unfolding _>>=_
 bind h k = record { holds = λ s e g. go-on-after (h .holds s e g) k }
 
-pub refusing : {A : Type 0} {rs : List Row} {Q : A → List Row → Type 0} (n : ℕ) → 0 < n → Keeps rs (refuse n) Q
+pub refusing : {A : Type 0} {rs : List Row} {Q : A → List Row → Type 0} {n : ℕ} → 0 < n → Keeps rs (refuse n) Q
 unfolding refuse
-refusing n z = record { holds = λ s e g. stopped z e g }
+refusing z = record { holds = λ s e g. stopped z e g }
+
+-- the number after n
+pub making : {A : Type 0} {rs : List Row} {Q : A → List Row → Type 0} {m : M ℕ} (f : ℕ → M A) (n : ℕ) → m ≡ pure (suc n) → Keeps rs (f (suc n)) Q → Keeps rs (m >>= f) Q
+unfolding pure _>>=_ go-on
+making f n q h = rw q h
 
 -- Q must last: it holds of every later table
 pub giving : {A : Type 0} {rs : List Row} {Q : A → List Row → Type 0} (a : A) → ((rs′ : List Row) → Extends rs rs′ → Q a rs′) → Keeps rs (pure a) Q
@@ -129,7 +135,7 @@ pub emitted : {rs : List Row} {rule : ℕ} {refs : List ℕ} {js : List Judgment
 unfolding emit looking pure push with-row refuse if_then_else_ from_get_or_
 emitted {rs} {rule} {refs} {js} {j} cs f = record { holds = λ s e g. go s e g (row-of j (s .rows)) refl (decLt (length (s .rows)) (s .row-room)) }
   where
-    go : (s : State) → Extends rs (s .rows) → Good s → (o : Option ℕ) → row-of j (s .rows) ≡ o → (d : Dec (length (s .rows) < s .row-room)) → After rs (λ n. At n j) ((from o get pure or (if d then push (record { rule = rule; refs = refs; judgment = j }) else refuse 18)) s)
+    go : (s : State) → Extends rs (s .rows) → Good s → (o : Option ℕ) → row-of j (s .rows) ≡ o → (d : Dec (length (s .rows) < s .row-room)) → After rs (λ n. At n j) ((from o get pure or (if d then push (record { rule = rule; refs = refs; judgment = j }) else refuse Refusal.rows)) s)
     go s e g (some n) q d = fine e g (found j (s .rows) n q)
     go s e g none q (yes h) =
         fine (more e)
@@ -151,7 +157,7 @@ pub counting-one : {rs : List Row} (x : Thing) → Keeps rs (count x) (λ _ _. U
 unfolding count with-cell
 counting-one {rs} x = record { holds = λ s e g. go s e g (among x (s .cells)) (decLt (length (s .cells)) (s .cell-room)) }
   where
-    go : (s : State) → Extends rs (s .rows) → Good s → (b : Bool) → (d : Dec (length (s .cells) < s .cell-room)) → After {A = Unit {0}} rs (λ _ _. Unit {0}) (elim b as (λ _. Outcome (Unit {0})) [ true ↦ done tt s | false ↦ elim d as (λ _. Outcome (Unit {0})) [ yes h ↦ done tt (with-cell x s) | no h ↦ refused 20 s ] ])
+    go : (s : State) → Extends rs (s .rows) → Good s → (b : Bool) → (d : Dec (length (s .cells) < s .cell-room)) → After {A = Unit {0}} rs (λ _ _. Unit {0}) (elim b as (λ _. Outcome (Unit {0})) [ true ↦ done tt s | false ↦ elim d as (λ _. Outcome (Unit {0})) [ yes h ↦ done tt (with-cell x s) | no h ↦ refused Refusal.cells s ] ])
     go s e g true d = fine e g tt
     go s e g false (yes h) = fine e (record { order = g .order; kept = g .kept }) tt
     go s e g false (no h) = stopped (lit< tt) e g
@@ -190,7 +196,7 @@ ended-after (stopped z e g) = stopped z e (record { order = g .order; kept = g .
 
 pub convert : {A : Type 0} {rs : List Row} {Q : A → List Row → Type 0} {m : M A} → Keeps rs m Q → Keeps rs (converting m) Q
 unfolding converting converted looking with-conversions
-convert h = record { holds = λ s e g. branch (decLt (s .conversions) 32) (λ _. record { holds = λ s e g. ended-after (h .holds (with-conversions (s .conversions + 1) s) e (record { order = g .order; kept = g .kept })) }) (λ _. refusing 16 (lit< tt)) .holds s e g }
+convert h = record { holds = λ s e g. branch (decLt (s .conversions) 32) (λ _. record { holds = λ s e g. ended-after (h .holds (with-conversions (s .conversions + 1) s) e (record { order = g .order; kept = g .kept })) }) (λ _. refusing (lit< tt)) .holds s e g }
 
 pub entering : {A : Type 0} {rs : List Row} {Q : A → List Row → Type 0} {m : M A} (left : ℕ) (xs : List Thing) → ((rs′ : List Row) → Extends rs rs′ → Keeps rs′ m Q) → Keeps rs (enter left xs m) Q
 unfolding enter note with-deepest

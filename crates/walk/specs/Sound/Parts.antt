@@ -1,66 +1,55 @@
 -- What a part was taken from.
 use Prim.Native.Nat.{ℕ}
-use mathlib.Core.Path.{_≡_}
-use mathlib.Core.Option.{some}
-use Rattle.walk.specs.Syntax.{quote, Term, Universe, Var, Nat, Zero, Pi, Lam, App, Path, PathLam, PathApp, plam}
-use Rattle.walk.specs.Walk.{level, pi-parts, lam-parts, path-parts, plam-body}
+use mathlib.Core.Path.{_≡_, refl, subst, ap, _∙_}
+use mathlib.Core.Option.{Option, some}
+use native.Mathlib.Omega.{arith}
+use Rattle.walk.specs.Syntax.{Term, Universe, Var, Nat, Zero, Pi, Lam, App, Path, PathLam, PathApp}
+use Rattle.walk.specs.Reader.{Kind, Kind-discrete, k-u, k-v, k-nat, k-zero, k-pi, k-lam, k-app, k-path, k-plam, k-papp}
+use Rattle.walk.specs.Walk.{View, view, if-so, of-kind, level, pi-parts, lam-parts, path-parts, plam-body}
+
+-- a term is what its view says, for the kinds that are asked for
+abbrev Whole : Kind → View → Term → Type 0
+Whole k-u v t = t ≡ Universe (v .number)
+Whole k-v v t = Unit {0}
+Whole k-nat v t = Unit {0}
+Whole k-zero v t = Unit {0}
+Whole k-pi v t = t ≡ Pi (v .one) (v .two)
+Whole k-lam v t = t ≡ Lam (v .one) (v .two)
+Whole k-app v t = Unit {0}
+Whole k-path v t = t ≡ Path (v .one) (v .two) (v .three)
+Whole k-plam v t = t ≡ PathLam (v .one) (v .two)
+Whole k-papp v t = Unit {0}
+
+whole : (t : Term) → Whole (view t .kind) (view t) t
+whole (Universe l) = refl
+whole (Var n) = tt
+whole Nat = tt
+whole Zero = tt
+whole (Pi a b) = refl
+whole (Lam a b) = refl
+whole (App f a) = tt
+whole (Path a b c) = refl
+whole (PathLam a b) = refl
+whole (PathApp p r) = tt
+
+is-of : {A : Type 0} (k : Kind) (t : Term) (a m : A) → of-kind k (view t) a ≡ some m → Whole k (view t) t × (a ≡ m)
+is-of {A} k t a m = go (Kind-discrete (view t .kind) k)
+  where
+    go : (d : Dec (view t .kind ≡ k)) → if-so d a ≡ some m → Whole k (view t) t × (a ≡ m)
+    go (yes q) e = (subst (λ (k : Kind). Whole k (view t) t) q (whole t), cc)
+    go (no q) e = let z : _≡_ {A = ℕ} 0 1 = cc in absurd (omega arith)
 
 pub level-is : (t : Term) (m : ℕ) → level t ≡ some m → t ≡ Universe m
-level-is (Universe l) m e = cc
-level-is (Var n) m e = cc
-level-is Nat m e = cc
-level-is Zero m e = cc
-level-is (Pi a b) m e = cc
-level-is (Lam a b) m e = cc
-level-is (App a b) m e = cc
-level-is (Path a b c) m e = cc
-level-is (PathLam a b) m e = cc
-level-is (PathApp a r) m e = cc
+level-is t m e = let x = is-of k-u t _ m e in x .0 ∙ ap (λ (l : ℕ). Universe l) (x .1)
 
 pub pi-is : (t : Term) (m : Term × Term) → pi-parts t ≡ some m → t ≡ Pi (m .0) (m .1)
-pi-is (Universe l) m e = cc
-pi-is (Var n) m e = cc
-pi-is Nat m e = cc
-pi-is Zero m e = cc
-pi-is (Pi a b) m e = cc
-pi-is (Lam a b) m e = cc
-pi-is (App a b) m e = cc
-pi-is (Path a b c) m e = cc
-pi-is (PathLam a b) m e = cc
-pi-is (PathApp a r) m e = cc
+pi-is t m e = let x = is-of k-pi t _ m e in x .0 ∙ ap (λ (p : Term × Term). Pi (p .0) (p .1)) (x .1)
 
 pub lam-is : (t : Term) (m : Term × Term) → lam-parts t ≡ some m → t ≡ Lam (m .0) (m .1)
-lam-is (Universe l) m e = cc
-lam-is (Var n) m e = cc
-lam-is Nat m e = cc
-lam-is Zero m e = cc
-lam-is (Pi a b) m e = cc
-lam-is (Lam a b) m e = cc
-lam-is (App a b) m e = cc
-lam-is (Path a b c) m e = cc
-lam-is (PathLam a b) m e = cc
-lam-is (PathApp a r) m e = cc
+lam-is t m e = let x = is-of k-lam t _ m e in x .0 ∙ ap (λ (p : Term × Term). Lam (p .0) (p .1)) (x .1)
 
 pub path-is : (t : Term) (m : Term × Term × Term) → path-parts t ≡ some m → t ≡ Path (m .0) (m .1) (m .2)
-path-is (Universe l) m e = cc
-path-is (Var n) m e = cc
-path-is Nat m e = cc
-path-is Zero m e = cc
-path-is (Pi a b) m e = cc
-path-is (Lam a b) m e = cc
-path-is (App a b) m e = cc
-path-is (Path a b c) m e = cc
-path-is (PathLam a b) m e = cc
-path-is (PathApp a r) m e = cc
+path-is t m e = let x = is-of k-path t _ m e in x .0 ∙ ap (λ (p : Term × Term × Term). Path (p .0) (p .1) (p .2)) (x .1)
 
-pub plam-is : (t m : Term) → plam-body t ≡ some m → quote t ≡ plam (quote m)
-plam-is (Universe l) m e = cc
-plam-is (Var n) m e = cc
-plam-is Nat m e = cc
-plam-is Zero m e = cc
-plam-is (Pi a b) m e = cc
-plam-is (Lam a b) m e = cc
-plam-is (App a b) m e = cc
-plam-is (Path a b c) m e = cc
-plam-is (PathLam a b) m e = let q : b ≡ m = cc in rw q
-plam-is (PathApp a r) m e = cc
+pub plam-is : (t m : Term) → plam-body t ≡ some m → t ≡ PathLam (view t .one) m
+plam-is t m e = let x = is-of k-plam t _ m e in x .0 ∙ ap (λ (b : Term). PathLam (view t .one) b) (x .1)

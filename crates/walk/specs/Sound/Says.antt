@@ -1,11 +1,12 @@
 -- What the row of each reference function states: `Sound c`, of the functions c.
 use Prim.Native.Nat.{ℕ, suc}
+use mathlib.Core.Path.{_≡_}
 use mathlib.Core.List.{List, [], _∷_}
 use mathlib.Core.Option.{Option, none, some}
 use mathlib.Core.Bool.{Bool, true, false}
 use Rattle.walk.specs.Syntax.{quote, quotes, Interval, Term, Universe, Context}
 use Rattle.walk.specs.Judgment.{Judgment, ctx, dshiftctx, lookup, max, interval, ishift, isubst, shift, dshift}
-use Rattle.walk.specs.State.{Row}
+use Rattle.walk.specs.State.{Row, pure}
 use Rattle.walk.specs.Walk.{Op, Shift, Subst, DShift, DSubst, IOp, Step, Callees, compared, larger, itransformed, transformed, typing, equation}
 use Rattle.walk.specs.Demand.{At, Cites}
 use Rattle.walk.specs.Sound.Logic.{Keeps}
@@ -43,7 +44,7 @@ abbrev pub Stepped : ℕ → Context → Term → Option Step → List Row → T
 Stepped d g t none rs = Unit {0}
 Stepped d g t (some step) rs = At (step .row) (equation d g t (step .term) (step .type)) rs
 
--- what each function's row says
+-- what each function's row says, and that the number after n is n + 1
 pub record Sound (c : Callees) : Type 0 where
   pub ctx : {rs : List Row} (d : ℕ) (g : Context) → Keeps rs (c .ctx d g) (λ x. At x (ctx d (quotes g)))
   pub infer : {rs : List Row} (d : ℕ) (g : Context) (t : Term) → Keeps rs (c .infer d g t) (λ o. At (o .1) (typing d g t (o .0)))
@@ -61,3 +62,4 @@ pub record Sound (c : Callees) : Type 0 where
   pub interval : {rs : List Row} (d : ℕ) (r : Interval) → Keeps rs (c .interval d r) (λ x. At x (interval d r))
   pub comparison : {rs : List Row} (m n : ℕ) (strict : Bool) → Keeps rs (c .comparison m n strict) (λ x. At x (compared strict m n))
   pub max : {rs : List Row} (m n : ℕ) → Keeps rs (c .max m n) (λ x. At x (max m n (larger m n)))
+  pub more : (n : ℕ) → c .more n ≡ pure (suc n)

@@ -10,7 +10,7 @@ use Rattle.walk.specs.Rules.{Follows, by·shift·u, by·shift·nat, by·
 use Rattle.walk.specs.State.{of-term, Row}
 use Rattle.walk.specs.Walk.{Op, Shift, Subst, DShift, DSubst, IShift, ISubst, Callees, under-body, transformed, by-op, finish, tvar-above, tvar, tinterval, transform-body}
 use Rattle.walk.specs.Demand.{At, Cites, none-cited, _also_}
-use Rattle.walk.specs.Sound.Logic.{lift, lifts, append, bind, refusing, giving, branch, emitted, counting, Keeps}
+use Rattle.walk.specs.Sound.Logic.{lift, lifts, append, bind, refusing, making, giving, branch, emitted, counting, Keeps}
 use Rattle.walk.specs.Sound.Says.{Under, u-shift, u-subst, u-dshift, u-dsubst, d-shift, d-subst, d-dshift, d-dsubst, Lifted, Inside, i-shift, i-subst, i-dshift, i-dsubst, Moved, Sound}
 use Rattle.walk.specs.Rule as R
 
@@ -77,25 +77,25 @@ finished t op out cs f = bind (counting (of-term out)) λ _ _ e₁ _. bind (emit
 module _ (c : Callees) (S : Sound c) where
   pub under-sound : {rs : List Row} (op : Op) (dimension : Bool) → Keeps rs (under-body c op dimension) (Lifted op dimension)
   unfolding under-body
-  under-sound (Shift k) false = giving _ λ _ _. record { premises = []; cited = none-cited; how = u-shift }
+  under-sound (Shift k) false = making _ k (S .more k) (giving _ λ _ _. record { premises = []; cited = none-cited; how = u-shift })
   under-sound (Shift k) true = giving _ λ _ _. record { premises = []; cited = none-cited; how = d-shift }
-  under-sound (Subst k r) false = bind (S .transform r (Shift 0)) λ o _ _ h. giving _ λ _ e. record { premises = _; cited = lift e h also none-cited; how = u-subst }
+  under-sound (Subst k r) false = bind (S .transform r (Shift 0)) λ o _ _ h. making _ k (S .more k) (giving _ λ _ e. record { premises = _; cited = lift e h also none-cited; how = u-subst })
   under-sound (Subst k r) true = bind (S .transform r (DShift 0)) λ o _ _ h. giving _ λ _ e. record { premises = _; cited = lift e h also none-cited; how = d-subst }
   under-sound (DShift k) false = giving _ λ _ _. record { premises = []; cited = none-cited; how = u-dshift }
-  under-sound (DShift k) true = giving _ λ _ _. record { premises = []; cited = none-cited; how = d-dshift }
+  under-sound (DShift k) true = making _ k (S .more k) (giving _ λ _ _. record { premises = []; cited = none-cited; how = d-dshift })
   under-sound (DSubst k q) false = giving _ λ _ _. record { premises = []; cited = none-cited; how = u-dsubst }
-  under-sound (DSubst k q) true = bind (S .itransform q (IShift 0)) λ o _ _ h. giving _ λ _ e. record { premises = _; cited = lift e h also none-cited; how = d-dsubst }
+  under-sound (DSubst k q) true = bind (S .itransform q (IShift 0)) λ o _ _ h. making _ k (S .more k) (giving _ λ _ e. record { premises = _; cited = lift e h also none-cited; how = d-dsubst })
 
   tvar-above-sound : {rs : List Row} (n k : ℕ) (r : Term) → Keeps rs (tvar-above c n k r) (λ o. At (o .1) (subst (quote (Var n)) k (quote r) (quote (o .0))))
   unfolding tvar-above
-  tvar-above-sound ℕ.zero k r = refusing 17 (lit< tt)
+  tvar-above-sound ℕ.zero k r = refusing (lit< tt)
   tvar-above-sound (ℕ.suc n) k r = bind (S .comparison k (suc n) true) λ x _ _ h. finished (Var (suc n)) (Subst k r) (Var n) (h also none-cited) by·subst·v·gt
 
   tvar-sound : {rs : List Row} (n : ℕ) (op : Op) → Keeps rs (tvar c n op) (λ o. At (o .1) (transformed (Var n) op (o .0)))
   unfolding tvar
   tvar-sound n (Shift k) = branch (decLt n k)
       (λ _. bind (S .comparison n k true) λ x _ _ h. finished (Var n) (Shift k) (Var n) (h also none-cited) by·shift·v·lt)
-      (λ _. bind (S .comparison k n false) λ x _ _ h. finished (Var n) (Shift k) (Var (suc n)) (h also none-cited) by·shift·v·ge)
+      (λ _. bind (S .comparison k n false) λ x _ _ h. making _ n (S .more n) (finished (Var n) (Shift k) (Var (suc n)) (h also none-cited) by·shift·v·ge))
   tvar-sound n (Subst k r) = branch (ℕ-discrete n k)
       (λ e. finished (Var n) (Subst k r) r none-cited (rw e by·subst·v·hit))
       (λ _. branch (decLt n k)

@@ -7,9 +7,9 @@ use Rattle.walk.specs.Syntax.{quote, quote?, I0, I1, Term, Universe, Var
 use Rattle.walk.specs.Judgment.{Judgment}
 use Rattle.walk.specs.Rules.{Follows, by·type·u, by·type·nat, by·type·zero, by·type·v, by·type·pi, by·type·lam, by·type·app, by·type·path, by·type·plam, by·type·papp, by·type·conv}
 use Rattle.walk.specs.State.{of-term, Row, key}
-use Rattle.walk.specs.Walk.{Subst, DSubst, Found, Callees, typing, level, pi-parts, path-parts, expose-body, universe-body, check-body, as-pi, as-path, find, new-infer, infer-body}
+use Rattle.walk.specs.Walk.{Subst, DSubst, Found, Callees, typing, level, pi-parts, path-parts, expose-body, universe-body, check-body, as-pi, as-path, found, find, new-infer, infer-body}
 use Rattle.walk.specs.Demand.{At, Cites, none-cited, _also_, same}
-use Rattle.walk.specs.Sound.Logic.{lift, lifts, _and_by_, bind, refusing, giving, branch, cases, found, emitted, counting, recalling, remembering, convert, Keeps}
+use Rattle.walk.specs.Sound.Logic.{lift, lifts, _and_by_, bind, refusing, making, giving, branch, cases, emitted, counting, recalling, remembering, convert, Keeps}
 use Rattle.walk.specs.Sound.Says.{Sound}
 use Rattle.walk.specs.Sound.Parts.{level-is, pi-is, path-is}
 
@@ -18,6 +18,10 @@ pub record Finds (d : ℕ) (g : Context) (t : Term) (found : Found) (rs : List R
   pub premises : List Judgment
   pub cited : Cites rs (found .refs) premises
   pub follows : Follows (found .rule) premises (typing d g t (found .type))
+
+finding : {rs : List Row} {refs : List ℕ} {js : List Judgment} {rule d : ℕ} {g : Context} {t : Term} (ty : Term) → Cites rs refs js → Follows rule js (typing d g t ty) → Keeps rs (found ty refs rule) (Finds d g t)
+unfolding found
+finding ty cs f = bind (counting (of-term ty)) λ _ _ e₁ _. giving _ λ _ e. record { premises = _; cited = lifts e (lifts e₁ cs); follows = f }
 
 module _ (c : Callees) (S : Sound c) where
   pub expose-sound : {rs : List Row} (d : ℕ) (g : Context) (t ty : Term) (x : ℕ) → At x (typing d g t ty) rs → Keeps rs (expose-body c d g t ty x) (λ o. At (o .1) (typing d g t (o .0)))
@@ -34,7 +38,7 @@ module _ (c : Callees) (S : Sound c) where
       bind (S .infer d g t) λ o₁ _ _ h₁.
       cases (level (o₁ .0))
       (λ l q. giving (l, o₁ .1) λ _ e. lift e (rw (level-is (o₁ .0) l q) at h₁))
-      (λ _. convert (bind (S .expose d g t (o₁ .0) (o₁ .1) h₁) λ o₂ _ _ h₂. cases (level (o₂ .0)) (λ l q. giving (l, o₂ .1) λ _ e. lift e (rw (level-is (o₂ .0) l q) at h₂)) (λ _. refusing 11 (lit< tt))))
+      (λ _. convert (bind (S .expose d g t (o₁ .0) (o₁ .1) h₁) λ o₂ _ _ h₂. cases (level (o₂ .0)) (λ l q. giving (l, o₂ .1) λ _ e. lift e (rw (level-is (o₂ .0) l q) at h₂)) (λ _. refusing (lit< tt))))
 
   pub check-sound : {rs : List Row} (d : ℕ) (g : Context) (t ty : Term) → Keeps rs (check-body c d g t ty) (λ x. At x (typing d g t ty))
   unfolding check-body
@@ -45,67 +49,61 @@ module _ (c : Callees) (S : Sound c) where
       (λ _. convert (bind (S .universe d g (o₁ .0)) λ o₂ _ e₂ _. bind (S .universe d g ty) λ o₃ _ e₃ h₃.
       branch (ℕ-discrete (o₂ .0) (o₃ .0))
       (λ q. bind (S .equal d g (o₁ .0) ty (Universe (o₂ .0))) λ _ _ e₄ h₄. emitted (lift e₄ (lift e₃ (lift e₂ h₁)) also h₄ also lift e₄ (rw q h₃) also none-cited) by·type·conv)
-      (λ _. refusing 12 (lit< tt))))
+      (λ _. refusing (lit< tt))))
 
   as-pi-sound : {rs : List Row} (d : ℕ) (g : Context) (f ty : Term) (x : ℕ) → At x (typing d g f ty) rs → Keeps rs (as-pi c d g f ty x) (λ o. At (o .2) (typing d g f (Pi (o .0) (o .1))))
   unfolding as-pi
   as-pi-sound d g f ty x h =
       cases (pi-parts ty)
       (λ ab q. giving (ab .0, ab .1, x) λ _ e. lift e (rw (pi-is ty ab q) at h))
-      (λ _. bind (convert (S .expose d g f ty x h)) λ o _ _ h′. cases (pi-parts (o .0)) (λ ab q. giving (ab .0, ab .1, o .1) λ _ e. lift e (rw (pi-is (o .0) ab q) at h′)) (λ _. refusing 9 (lit< tt)))
+      (λ _. bind (convert (S .expose d g f ty x h)) λ o _ _ h′. cases (pi-parts (o .0)) (λ ab q. giving (ab .0, ab .1, o .1) λ _ e. lift e (rw (pi-is (o .0) ab q) at h′)) (λ _. refusing (lit< tt)))
 
   pub as-path-sound : {rs : List Row} (d : ℕ) (g : Context) (f ty : Term) (x : ℕ) → At x (typing d g f ty) rs → Keeps rs (as-path c d g f ty x) (λ o. At (o .3) (typing d g f (Path (o .0) (o .1) (o .2))))
   unfolding as-path
   as-path-sound d g f ty x h =
       cases (path-parts ty)
       (λ ab q. giving (ab .0, ab .1, ab .2, x) λ _ e. lift e (rw (path-is ty ab q) at h))
-      (λ _. bind (convert (S .expose d g f ty x h)) λ o _ _ h′. cases (path-parts (o .0)) (λ ab q. giving (ab .0, ab .1, ab .2, o .1) λ _ e. lift e (rw (path-is (o .0) ab q) at h′)) (λ _. refusing 10 (lit< tt)))
+      (λ _. bind (convert (S .expose d g f ty x h)) λ o _ _ h′. cases (path-parts (o .0)) (λ ab q. giving (ab .0, ab .1, ab .2, o .1) λ _ e. lift e (rw (path-is (o .0) ab q) at h′)) (λ _. refusing (lit< tt)))
 
   find-sound : {rs : List Row} (d : ℕ) (g : Context) (t : Term) → Keeps rs (find c d g t) (Finds d g t)
   unfolding find
-  find-sound d g (Universe l) = bind (S .ctx d g) λ _ _ _ h. giving _ λ _ e. record { premises = _; cited = lift e h also none-cited; follows = by·type·u }
-  find-sound d g Nat = bind (S .ctx d g) λ _ _ _ h. giving _ λ _ e. record { premises = _; cited = lift e h also none-cited; follows = by·type·nat }
-  find-sound d g Zero = bind (S .ctx d g) λ _ _ _ h. giving _ λ _ e. record { premises = _; cited = lift e h also none-cited; follows = by·type·zero }
+  find-sound d g (Universe l) = bind (S .ctx d g) λ _ _ _ h. making _ l (S .more l) (finding _ (h also none-cited) by·type·u)
+  find-sound d g Nat = bind (S .ctx d g) λ _ _ _ h. finding _ (h also none-cited) by·type·nat
+  find-sound d g Zero = bind (S .ctx d g) λ _ _ _ h. finding _ (h also none-cited) by·type·zero
   find-sound d g (Var n) =
       bind (S .ctx d g) λ _ _ _ h₁. bind (S .lookup g n) λ _ _ e₂ h₂.
-      giving _ λ _ e. record { premises = _; cited = lifts e (lift e₂ h₁ also h₂ also none-cited); follows = by·type·v }
+      finding _ (lift e₂ h₁ also h₂ also none-cited) by·type·v
   find-sound d g (Pi a b) =
       bind (S .universe d g a) λ o₁ _ _ h₁. bind (S .universe d (Cons a g) b) λ o₂ _ e₂ h₂. bind (S .max (o₁ .0) (o₂ .0)) λ _ _ e₃ h₃.
-      giving _ λ _ e. record { premises = _; cited = lifts e (lift e₃ (lift e₂ h₁) also lift e₃ h₂ also h₃ also none-cited); follows = by·type·pi }
+      finding _ (lift e₃ (lift e₂ h₁) also lift e₃ h₂ also h₃ also none-cited) by·type·pi
   find-sound d g (Lam a body) =
       bind (S .universe d g a) λ _ _ _ h₁. bind (S .infer d (Cons a g) body) λ o₂ _ e₂ h₂. bind (S .universe d (Cons a g) (o₂ .0)) λ _ _ e₃ h₃.
-      giving _ λ _ e. record { premises = _; cited = lifts e (lift e₃ (lift e₂ h₁) also lift e₃ h₂ also h₃ also none-cited); follows = by·type·lam }
+      finding _ (lift e₃ (lift e₂ h₁) also lift e₃ h₂ also h₃ also none-cited) by·type·lam
   find-sound d g (App f a) =
       bind (S .infer d g f) λ o₀ _ _ h₀. bind (as-pi-sound d g f (o₀ .0) (o₀ .1) h₀) λ o₁ _ _ h₁. bind (S .check d g a (o₁ .0)) λ _ _ e₂ h₂. bind (S .transform (o₁ .1) (Subst 0 a)) λ _ _ e₃ h₃.
-      giving _ λ _ e. record { premises = _; cited = lifts e (lift e₃ (lift e₂ h₁) also lift e₃ h₂ also h₃ also none-cited); follows = by·type·app }
+      finding _ (lift e₃ (lift e₂ h₁) also lift e₃ h₂ also h₃ also none-cited) by·type·app
   find-sound d g (Path a b f) =
-      bind (S .ctx d g) λ _ _ _ h₀. bind (S .dshiftctx g) λ o₁ _ e₁ h₁. bind (S .universe (suc d) (o₁ .0) a) λ _ _ e₂ h₂.
+      bind (S .ctx d g) λ _ _ _ h₀. bind (S .dshiftctx g) λ o₁ _ e₁ h₁.
+      making _ d (S .more d) (bind (S .universe (suc d) (o₁ .0) a) λ _ _ e₂ h₂.
       bind (S .transform a (DSubst 0 I0)) λ o₃ _ e₃ h₃. bind (S .transform a (DSubst 0 I1)) λ o₄ _ e₄ h₄. bind (S .check d g b (o₃ .0)) λ _ _ e₅ h₅. bind (S .check d g f (o₄ .0)) λ _ _ e₆ h₆.
-      giving _ λ _ e. record {
-        premises = _;
-        cited = lifts e ((none-cited and h₀ by same and h₁ by e₁ and h₂ by e₂ and h₃ by e₃ and h₄ by e₄ and h₅ by e₅ and h₆ by e₆));
-        follows = by·type·path;
-      }
+      finding _ (none-cited and h₀ by same and h₁ by e₁ and h₂ by e₂ and h₃ by e₃ and h₄ by e₄ and h₅ by e₅ and h₆ by e₆) by·type·path)
   find-sound d g (PathLam a body) =
-      bind (S .ctx d g) λ _ _ _ h₀. bind (S .dshiftctx g) λ o₁ _ e₁ h₁. bind (S .universe (suc d) (o₁ .0) a) λ _ _ e₂ h₂. bind (S .check (suc d) (o₁ .0) body a) λ _ _ e₃ h₃.
+      bind (S .ctx d g) λ _ _ _ h₀. bind (S .dshiftctx g) λ o₁ _ e₁ h₁.
+      making _ d (S .more d) (bind (S .universe (suc d) (o₁ .0) a) λ _ _ e₂ h₂. bind (S .check (suc d) (o₁ .0) body a) λ _ _ e₃ h₃.
       bind (S .transform a (DSubst 0 I0)) λ o₄ _ e₄ h₄. bind (S .transform a (DSubst 0 I1)) λ o₅ _ e₅ h₅.
       bind (S .transform body (DSubst 0 I0)) λ o₆ _ e₆ h₆. bind (S .transform body (DSubst 0 I1)) λ o₇ _ e₇ h₇.
       bind (S .check d g (o₆ .0) (o₄ .0)) λ _ _ e₈ h₈. bind (S .check d g (o₇ .0) (o₅ .0)) λ _ _ e₉ h₉.
-      giving _ λ _ e. record {
-        premises = _;
-        cited = lifts e (none-cited and h₀ by same and h₁ by e₁ and h₂ by e₂ and h₃ by e₃ and h₄ by e₄ and h₅ by e₅ and h₆ by e₆ and h₇ by e₇ and h₈ by e₈ and h₉ by e₉);
-        follows = by·type·plam;
-      }
+      finding _ (none-cited and h₀ by same and h₁ by e₁ and h₂ by e₂ and h₃ by e₃ and h₄ by e₄ and h₅ by e₅ and h₆ by e₆ and h₇ by e₇ and h₈ by e₈ and h₉ by e₉) by·type·plam)
   find-sound d g (PathApp p r) =
       bind (S .infer d g p) λ o₀ _ _ h₀. bind (as-path-sound d g p (o₀ .0) (o₀ .1) h₀) λ o₁ _ _ h₁. bind (S .interval d r) λ _ _ e₂ h₂.
       bind (S .transform (o₁ .0) (DSubst 0 r)) λ o₃ _ e₃ h₃. bind (S .universe d g (o₃ .0)) λ _ _ e₄ h₄.
-      giving _ λ _ e. record { premises = _; cited = lifts e (lift e₄ (lift e₃ (lift e₂ h₁)) also lift e₄ (lift e₃ h₂) also lift e₄ h₃ also h₄ also none-cited); follows = by·type·papp }
+      finding _ (lift e₄ (lift e₃ (lift e₂ h₁)) also lift e₄ (lift e₃ h₂) also lift e₄ h₃ also h₄ also none-cited) by·type·papp
 
   new-infer-sound : {rs : List Row} (d : ℕ) (g : Context) (t : Term) → Keeps rs (new-infer c d g t) (λ o. At (o .1) (typing d g t (o .0)))
   unfolding new-infer
   new-infer-sound d g t =
-      bind (find-sound d g t) λ found _ _ h₁. bind (counting (of-term (found .type))) λ _ _ e₂ _. bind (emitted (lifts e₂ (h₁ .cited)) (h₁ .follows)) λ row _ _ h₃.
-      bind (remembering (key d g t) (found .type) row h₃) λ _ _ e₄ _. giving (found .type, row) λ _ e. lift e (lift e₄ h₃)
+      bind (find-sound d g t) λ it _ _ h₁. bind (emitted (h₁ .cited) (h₁ .follows)) λ row _ _ h₂.
+      bind (remembering (key d g t) (it .type) row h₂) λ _ _ e₃ _. giving (it .type, row) λ _ e. lift e (lift e₃ h₂)
 
   pub infer-sound : {rs : List Row} (d : ℕ) (g : Context) (t : Term) → Keeps rs (infer-body c d g t) (λ o. At (o .1) (typing d g t (o .0)))
   unfolding infer-body

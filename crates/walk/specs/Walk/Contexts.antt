@@ -4,6 +4,7 @@ use mathlib.Core.List.{[], _∷_}
 use Rattle.walk.specs.Syntax.{Term, Context, Nil, Cons, quote, quotes}
 use Rattle.walk.specs.Judgment.{ctx, dshiftctx, lookup}
 use Rattle.walk.specs.Rule as R
+use Rattle.walk.specs.Refusal as Refusal
 use Rattle.walk.specs.State.{M, looking, _>>=_, pure, refuse, from_get_or_, row-of, of-term, of-context, count-all, emit}
 use Rattle.walk.specs.Walk.Reference.{Shift, DShift, Callees}
 
@@ -30,7 +31,7 @@ unfoldable pub ctx-body : Callees → ℕ → Context → M ℕ
 ctx-body c d g = looking λ s. from row-of (ctx d (quotes g)) (s .rows) get pure or new-ctx c d g
 
 unfoldable pub lookup-body : Callees → Context → ℕ → M (Term × ℕ)
-lookup-body c Nil n = refuse 8
+lookup-body c Nil n = refuse Refusal.unbound
 lookup-body c (Cons a g) ℕ.zero = do
   (ty, x) ← c .transform a (Shift 0)
   _ ← count-all (of-term ty)

@@ -5,6 +5,7 @@ use mathlib.Core.Option.{Option, none, some}
 use Rattle.walk.specs.Syntax.{Interval, I0, I1, Dim, Neg, Meet, Join, Term, Universe, Var, Nat, Zero, Pi, Lam, App, Path, PathLam, PathApp, Context, Cons, quote, quotes, quote?}
 use Rattle.walk.specs.Judgment.{Judgment, eq}
 use Rattle.walk.specs.Rule as R
+use Rattle.walk.specs.Refusal as Refusal
 use Rattle.walk.specs.State.{M, _>>=_, pure, refuse, if_then_else_, from_get_or_, emit}
 use Rattle.walk.specs.Walk.Reference.{Subst, DSubst, Step, Callees}
 use Rattle.walk.specs.Walk.Typing.{lam-parts, plam-body, as-path}
@@ -67,7 +68,7 @@ reduce-body c d g (PathApp p r) = do
 unfoldable pub rounds : ℕ → Callees → ℕ → Context → Term → Term → Term → ℕ → M (Term × ℕ)
 rounds ℕ.zero c d g t ty current evidence = do
   next ← c .reduce d g current
-  from next get (λ step. refuse 15) or pure (current, evidence)
+  from next get (λ step. refuse Refusal.reductions) or pure (current, evidence)
 rounds (ℕ.suc left) c d g t ty current evidence = do
   next ← c .reduce d g current
   from next
@@ -77,7 +78,7 @@ rounds (ℕ.suc left) c d g t ty current evidence = do
         _ ← c .check d g (step .term) ty
         evidence′ ← emit R.eq·trans (evidence ∷ step .row ∷ []) (equation d g t (step .term) ty)
         rounds left c d g t ty (step .term) evidence′)
-      else refuse 14)
+      else refuse Refusal.step-type)
       or pure (current, evidence)
 
 unfoldable pub normalize-body : Callees → ℕ → Context → Term → Term → M (Term × ℕ)
@@ -99,4 +100,4 @@ equal-body c d g a b ty = do
             then (do
               reverse ← emit R.eq·sym (r ∷ []) (equation d g right b ty)
               emit R.eq·trans (l ∷ reverse ∷ []) (equation d g a b ty))
-            else refuse 13
+            else refuse Refusal.quotes

@@ -6,6 +6,7 @@ use native.Mathlib.Decide.{ℕ-discrete, decLt}
 use Rattle.walk.specs.Syntax.{Interval, I0, I1, Dim, Neg, Meet, Join}
 use Rattle.walk.specs.Judgment.{Judgment, interval, ishift, isubst}
 use Rattle.walk.specs.Rule as R
+use Rattle.walk.specs.Refusal as Refusal
 use Rattle.walk.specs.State.{M, _>>=_, pure, refuse, if_then_else_, of-interval, count-all, emit}
 use Rattle.walk.specs.Walk.Reference.{IOp, IShift, ISubst, Callees}
 
@@ -25,9 +26,9 @@ ifinish r op out rule refs = do
   row ← emit rule refs (itransformed r op out)
   pure (out, row)
 
--- a dimension above k (so not 0: 17 is never met; `refusals` of `order`)
+-- a dimension above k (so not 0: this refusal is never met; `refusals` of `order`)
 unfoldable pub idim-above : Callees → ℕ → ℕ → Interval → M (Interval × ℕ)
-idim-above c ℕ.zero k q = refuse 17
+idim-above c ℕ.zero k q = refuse Refusal.dimension
 idim-above c (ℕ.suc n) k q = do
   x ← c .comparison k (suc n) true
   ifinish (Dim (suc n)) (ISubst k q) (Dim n) R.isubst·dim·gt (x ∷ [])
@@ -36,7 +37,7 @@ unfoldable pub idim : Callees → ℕ → IOp → M (Interval × ℕ)
 idim c n (IShift k) =
     if decLt n k
     then (c .comparison n k true >>= λ x. ifinish (Dim n) (IShift k) (Dim n) R.ishift·dim·lt (x ∷ []))
-    else (c .comparison k n false >>= λ x. ifinish (Dim n) (IShift k) (Dim (suc n)) R.ishift·dim·ge (x ∷ []))
+    else (c .comparison k n false >>= λ x. c .more n >>= λ n′. ifinish (Dim n) (IShift k) (Dim n′) R.ishift·dim·ge (x ∷ []))
 idim c n (ISubst k q) =
     if ℕ-discrete n k
     then ifinish (Dim n) (ISubst k q) q R.isubst·dim·hit []

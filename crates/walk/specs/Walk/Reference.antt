@@ -43,7 +43,7 @@ pub record Found : Type 0 where
   pub refs : List ℕ
   pub rule : ℕ
 
--- The sixteen reference functions.
+-- The sixteen reference functions, and how they make the number after n: `more n`.
 pub record Callees : Type 0 where
   pub ctx : ℕ → Context → M ℕ
   pub infer : ℕ → Context → Term → M (Term × ℕ)
@@ -61,3 +61,4 @@ pub record Callees : Type 0 where
   pub interval : ℕ → Interval → M ℕ
   pub comparison : ℕ → ℕ → Bool → M ℕ
   pub max : ℕ → ℕ → M ℕ
+  pub more : ℕ → M ℕ

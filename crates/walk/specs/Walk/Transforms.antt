@@ -6,25 +6,32 @@ use native.Mathlib.Decide.{ℕ-discrete, decLt}
 use Rattle.walk.specs.Syntax.{Interval, Term, Universe, Var, Nat, Zero, Pi, Lam, App, Path, PathLam, PathApp, quote}
 use Rattle.walk.specs.Judgment.{Judgment, shift, subst, dshift, dsubst}
 use Rattle.walk.specs.Rule as R
+use Rattle.walk.specs.Refusal as Refusal
 use Rattle.walk.specs.State.{M, _>>=_, pure, refuse, if_then_else_, of-term, count-all, emit}
 use Rattle.walk.specs.Walk.Reference.{Op, Shift, Subst, DShift, DSubst, IShift, ISubst, Callees}
 
 -- under a binder, of a variable (false) or of a dimension (true); with the rows that this cites
 unfoldable pub under-body : Callees → Op → Bool → M (Op × List ℕ)
-under-body c (Shift k) false = pure (Shift (suc k), [])
+under-body c (Shift k) false = do
+  k′ ← c .more k
+  pure (Shift k′, [])
 under-body c (Shift k) true = pure (Shift k, [])
 under-body c (Subst k r) false = do
   (r′, x) ← c .transform r (Shift 0)
-  pure (Subst (suc k) r′, x ∷ [])
+  k′ ← c .more k
+  pure (Subst k′ r′, x ∷ [])
 under-body c (Subst k r) true = do
   (r′, x) ← c .transform r (DShift 0)
   pure (Subst k r′, x ∷ [])
 under-body c (DShift k) false = pure (DShift k, [])
-under-body c (DShift k) true = pure (DShift (suc k), [])
+under-body c (DShift k) true = do
+  k′ ← c .more k
+  pure (DShift k′, [])
 under-body c (DSubst k r) false = pure (DSubst k r, [])
 under-body c (DSubst k r) true = do
   (r′, x) ← c .itransform r (IShift 0)
-  pure (DSubst (suc k) r′, x ∷ [])
+  k′ ← c .more k
+  pure (DSubst k′ r′, x ∷ [])
 
 abbrev pub transformed : Term → Op → Term → Judgment
 transformed t (Shift k) out = shift (quote t) k (quote out)
@@ -44,9 +51,9 @@ finish t op out rule refs = do
   row ← emit rule refs (transformed t op out)
   pure (out, row)
 
--- a variable above k (so not 0: 17 is never met; `refusals` of `order`)
+-- a variable above k (so not 0: this refusal is never met; `refusals` of `order`)
 unfoldable pub tvar-above : Callees → ℕ → ℕ → Term → M (Term × ℕ)
-tvar-above c ℕ.zero k r = refuse 17
+tvar-above c ℕ.zero k r = refuse Refusal.dimension
 tvar-above c (ℕ.suc n) k r = do
   x ← c .comparison k (suc n) true
   finish (Var (suc n)) (Subst k r) (Var n) R.subst·v·gt (x ∷ [])
@@ -55,7 +62,7 @@ unfoldable pub tvar : Callees → ℕ → Op → M (Term × ℕ)
 tvar c n (Shift k) =
     if decLt n k
     then (c .comparison n k true >>= λ x. finish (Var n) (Shift k) (Var n) R.shift·v·lt (x ∷ []))
-    else (c .comparison k n false >>= λ x. finish (Var n) (Shift k) (Var (suc n)) R.shift·v·ge (x ∷ []))
+    else (c .comparison k n false >>= λ x. c .more n >>= λ n′. finish (Var n) (Shift k) (Var n′) R.shift·v·ge (x ∷ []))
 tvar c n (Subst k r) =
     if ℕ-discrete n k
     then finish (Var n) (Subst k r) r R.subst·v·hit []
