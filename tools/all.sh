@@ -1,13 +1,14 @@
 #!/bin/sh
-# all.sh: makes every generated definition and proof again, in rt fmt's layout, and checks the crates. RT is the command to check with
-# (default: rt).
+# Makes what is generated under crates/ again, in rt fmt's layout, and checks the crates.
+#   tools/all.sh           all of it
+#   tools/all.sh tables    the definitions that other files fix, in seconds; nothing is proved
+# RT is the command to check with (default: rt).
 set -e
 cd "$(dirname "$0")/.."
 python3 tools/opened.py
 python3 tools/tables.py > crates/link/specs/Tables.antt
-python3 tools/opened_words.py > crates/link/specs/Opened.antt
-for crate in ast producer run; do
+[ "$1" = tables ] || for crate in ast producer run; do
     python3 tools/prove.py "$crate"
 done
 rt fmt
-${RT:-rt} check ast producer run link
+[ "$1" = tables ] || ${RT:-rt} check ast producer run link

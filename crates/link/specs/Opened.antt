@@ -1,4 +1,4 @@
--- Every definition of the run over words, opened at once: `unfolding opened` computes it. Written by tools/opened_words.py.
+-- Every definition of the run over words, opened at once: `unfolding opened` computes it. Written by tools/opened.py.
 use Rattle.ast.specs.Words as ast-Words
 use Rattle.ast.specs.Cells as ast-Cells
 use Rattle.ast.specs.Index as ast-Index

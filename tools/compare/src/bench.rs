@@ -84,7 +84,7 @@ fn spread(mut all: Vec<f64>) -> [f64; 3] {
 fn sizes(kind: &str) -> Result<String> {
     let case = generator::bench(kind).ok_or_else(|| Error::other(kind.to_owned()))?;
     oracle::on_large_stack(|| {
-        let mut sides = Sides::new(u64::MAX);
+        let mut sides = Sides::new(u64::MAX, 0);
         sides.compare(&case).map_err(Error::other)?;
         let met = sides.tally;
         Ok(format!("{}, {}, {}, {}", met.calls, met.rows, met.cells, met.deepest))

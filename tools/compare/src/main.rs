@@ -1,5 +1,6 @@
 //! Compares the program with the oracle, run by run.
 mod bench;
+mod cuts;
 mod program;
 mod quote;
 mod same;
@@ -16,6 +17,7 @@ use generator::Case;
 use std::io::{self, Write};
 use std::path::Path;
 use std::process::ExitCode;
+use tally::Tally;
 use work::{Asked, Sides, Source};
 
 const USAGE: &str = "\
@@ -24,6 +26,7 @@ compare sweep SEED COUNT [FIRST]  each in many slices and limits
 compare seeds                     those written by hand
 compare short LENGTH              every run of so many codes and kinds after the header
 compare batch                     those of standard input, as the generator writes them
+compare million                   the parts of docs/COMPARISON.md, one after the other
 compare vectors SEED FOLDER       writes stored runs, and what replay says of them
 compare bench [KIND..] [--times N]  times of both sides, N processes each (5)
 compare growth KIND [--times N]   times of the program on the first 1/64, 1/32, .. of a large run
@@ -31,7 +34,19 @@ compare play SIDE KIND TIMES      one process of these: program, source or count
     --full        every run in 50,000 rows, at the highest nesting limit
     --work STEPS  gives a run up where the oracle takes more (10,000,000)
     --threads N   (2)
+    --cuts N      each run cut after each of its first N calls too (0)
 ";
+
+/// The comparison at scale (docs/COMPARISON.md).
+const PARTS: [&str; 7] = [
+    "seeds --work 2000000000",
+    "2026 600000",
+    "2027 400000 --full",
+    "sweep 2028 2000",
+    "short 4",
+    "2029 100000 --cuts 100",
+    "sweep 2030 200 --cuts 100",
+];
 
 fn main() -> ExitCode {
     let words: Vec<String> = std::env::args().skip(1).collect();
@@ -40,39 +55,70 @@ fn main() -> ExitCode {
         ["vectors", seed, folder] => return write_vectors(seed, folder),
         ["bench", ref kinds @ ..] => return timed(kinds, bench::table),
         ["growth", ref kind @ ..] => {
-            return timed(kind, |kinds, times| kinds.iter().try_for_each(|k| bench::growth(k, times)))
+            return timed(kind, |kinds, times| {
+                kinds.iter().try_for_each(|k| bench::growth(k, times))
+            })
         }
         ["play", side, kind, times] => return one_side(side, kind, times),
+        ["million", ref options @ ..] => return at_scale(options),
         _ => {}
     }
-    let Some(asked) = asked(&words) else {
-        eprint!("{USAGE}");
-        return ExitCode::from(2);
-    };
+    match asked(&parts).map(|asked| compared(&asked)) {
+        None => usage(),
+        Some(Ok(Some(_))) => ExitCode::SUCCESS,
+        Some(_) => ExitCode::FAILURE,
+    }
+}
+
+fn usage() -> ExitCode {
+    eprint!("{USAGE}");
+    ExitCode::from(2)
+}
+
+/// Compares as asked and prints what was met: that is given back where there is
+/// no difference.
+fn compared(asked: &Asked) -> io::Result<Option<Tally>> {
     let (tally, found) = asked.compare();
     let mut out = String::new();
     tally.write(&mut out).unwrap();
-    let status = match found {
-        None => {
-            out.push_str("no difference\n");
-            ExitCode::SUCCESS
-        }
+    let same = found.is_none();
+    match found {
+        None => out.push_str("no difference\n"),
         Some(found) => {
-            let explain = || Sides::new(asked.work).explain(found);
+            let explain = || Sides::new(asked.work, asked.cuts).explain(found);
             out.push_str(&oracle::on_large_stack(explain));
-            ExitCode::FAILURE
         }
-    };
-    match io::stdout().write_all(out.as_bytes()) {
-        Ok(()) => status,
-        Err(_) => ExitCode::FAILURE,
     }
+    io::stdout().write_all(out.as_bytes())?;
+    Ok(same.then_some(tally))
+}
+
+/// Every part, up to the first difference; then the table of the document.
+fn at_scale(options: &[&str]) -> ExitCode {
+    let mut together = Tally::default();
+    let mut table = String::new();
+    for part in PARTS {
+        println!("== compare {part}");
+        let words: Vec<&str> = part.split(' ').chain(options.iter().copied()).collect();
+        let Some(asked) = asked(&words) else {
+            return usage();
+        };
+        let Ok(Some(tally)) = compared(&asked) else {
+            return ExitCode::FAILURE;
+        };
+        tally.write_line(&mut table, &format!("`{part}`")).unwrap();
+        together.join(&tally);
+    }
+    together.write_line(&mut table, "together").unwrap();
+    let mut out = String::from("== together\n");
+    together.write(&mut out).unwrap();
+    print!("{out}{table}");
+    ExitCode::SUCCESS
 }
 
 fn write_vectors(seed: &str, folder: &str) -> ExitCode {
     let Ok(seed) = seed.parse() else {
-        eprint!("{USAGE}");
-        return ExitCode::from(2);
+        return usage();
     };
     match oracle::on_large_stack(|| vectors::write(seed, Path::new(folder))) {
         Ok(said) => {
@@ -106,14 +152,11 @@ fn one_side(side: &str, kind: &str, times: &str) -> ExitCode {
             print!("{said}");
             ExitCode::SUCCESS
         }
-        None => {
-            eprint!("{USAGE}");
-            ExitCode::from(2)
-        }
+        None => usage(),
     }
 }
 
-fn asked(words: &[String]) -> Option<Asked> {
+fn asked(words: &[&str]) -> Option<Asked> {
     let mut asked = Asked {
         source: Source::Listed(Vec::new()),
         first: 0,
@@ -121,14 +164,16 @@ fn asked(words: &[String]) -> Option<Asked> {
         full: false,
         work: 10_000_000,
         threads: 2,
+        cuts: 0,
     };
     let mut plain: Vec<&str> = Vec::new();
-    let mut words = words.iter();
+    let mut words = words.iter().copied();
     while let Some(word) = words.next() {
-        match word.as_str() {
+        match word {
             "--full" => asked.full = true,
             "--work" => asked.work = words.next()?.parse().ok()?,
             "--threads" => asked.threads = words.next()?.parse().ok()?,
+            "--cuts" => asked.cuts = words.next()?.parse().ok()?,
             word if word.starts_with('-') => return None,
             word => plain.push(word),
         }

@@ -11,14 +11,15 @@ use std::collections::HashMap;
 use std::ops::Range;
 
 pub const NO_ROW: u32 = u32::MAX;
-const ROW: usize = 24;
-const CELL: usize = 8;
-const ANSWER: usize = 4;
+/// Words of an entry of each slice.
+pub const ROW: usize = 24;
+pub const CELL: usize = 8;
+pub const ANSWER: usize = 4;
 
 /// What differs, in words.
 pub type Difference = String;
 
-fn want(holds: bool, say: impl FnOnce() -> String) -> Result<(), Difference> {
+pub fn want(holds: bool, say: impl FnOnce() -> String) -> Result<(), Difference> {
     if holds {
         Ok(())
     } else {
@@ -71,7 +72,12 @@ pub fn nodes_of(cells: &[u32], count: u32) -> Vec<Node> {
 
 /// The index's words are a tree: each entry but the first is a child of one lower
 /// entry, and a word that names none is 0.
-fn tree(words: &[u32], count: usize, size: usize, children: Range<usize>) -> Result<(), Difference> {
+fn tree(
+    words: &[u32],
+    count: usize,
+    size: usize,
+    children: Range<usize>,
+) -> Result<(), Difference> {
     let mut parents = vec![0; count];
     for i in 0..count {
         for at in children.clone() {

@@ -90,6 +90,11 @@ struct Node {
 /// How many terms a call of each code has.
 const TERMS: [usize; 6] = [0, 1, 1, 2, 2, 3];
 
+/// Where each call ends, of a run that can be read.
+pub fn ends(bytes: &[u8]) -> Option<Vec<usize>> {
+    Some(read(bytes)?.iter().map(|call| call.end).collect())
+}
+
 fn read(bytes: &[u8]) -> Option<Vec<Span>> {
     let mut out = Vec::new();
     let mut at = 2;

@@ -21,6 +21,10 @@ pub struct Tally {
     pub calls: u64,
     pub rows: u64,
     pub cells: u64,
+    /// Of the runs cut after a call: how many, and the sums of rows and cells.
+    pub cuts: [u64; 3],
+    /// Calls that others follow and no cut was made after.
+    pub uncut: u64,
     /// The deepest of all calls.
     pub deepest: u32,
     /// By number: 0 accepted, 1 to 4 runs, the rest calls.
@@ -40,6 +44,8 @@ impl Default for Tally {
             calls: 0,
             rows: 0,
             cells: 0,
+            cuts: [0; 3],
+            uncut: 0,
             deepest: 0,
             numbers: [0; NUMBERS],
             rules: [0; rules::NAMES.len()],
@@ -75,6 +81,14 @@ impl Tally {
         } += 1;
     }
 
+    /// A run cut after one of its calls. What it meets, the whole run meets too.
+    pub fn add_cut(&mut self, ran: &Ran) {
+        if ran.number != 0 {
+            return;
+        }
+        add(&mut self.cuts, &[1, ran.rows.len() as u64, ran.cells.into()]);
+    }
+
     pub fn join(&mut self, other: &Self) {
         self.runs += other.runs;
         self.slow += other.slow;
@@ -85,13 +99,11 @@ impl Tally {
         self.calls += other.calls;
         self.rows += other.rows;
         self.cells += other.cells;
+        self.uncut += other.uncut;
         self.deepest = self.deepest.max(other.deepest);
-        for (sum, count) in self.numbers.iter_mut().zip(other.numbers) {
-            *sum += count;
-        }
-        for (sum, count) in self.rules.iter_mut().zip(other.rules) {
-            *sum += count;
-        }
+        add(&mut self.cuts, &other.cuts);
+        add(&mut self.numbers, &other.numbers);
+        add(&mut self.rules, &other.rules);
     }
 
     /// Refusals 1 to 20 and rules 0 to 94 that were not met.
@@ -102,21 +114,59 @@ impl Tally {
         (none(&self.numbers, 1), none(&self.rules, 0))
     }
 
+    fn refused(&self) -> u64 {
+        self.numbers[1..=4].iter().sum()
+    }
+
+    /// The line of a part in the table of docs/COMPARISON.md.
+    pub fn write_line(&self, out: &mut String, part: &str) -> fmt::Result {
+        let sorts = [self.inside, self.never_full, self.outside, self.refused()];
+        let counts = [self.calls, self.numbers[0], self.cuts[0]];
+        write!(out, "| {part} | {} |", with_commas(self.runs))?;
+        for count in sorts.into_iter().chain(counts) {
+            write!(out, " {} |", with_commas(count))?;
+        }
+        writeln!(out)
+    }
+
     pub fn write(&self, out: &mut String) -> fmt::Result {
         writeln!(out, "runs compared {}", self.runs)?;
         writeln!(out, "  table of 50,000 rows, no 19 or 20: {}", self.inside)?;
         writeln!(out, "  shorter table, never full, no 19 or 20: {}", self.never_full)?;
         writeln!(out, "  outside the Rust's: 19, 20, or 18 in a shorter table: {}", self.outside)?;
-        writeln!(out, "  refused as a whole: {}", self.numbers[1..=4].iter().sum::<u64>())?;
+        writeln!(out, "  refused as a whole: {}", self.refused())?;
         let places = &self.slow_places;
         writeln!(out, "runs left out, too slow for the oracle {} at {places:?}", self.slow)?;
         writeln!(out, "calls {} accepted {}", self.calls, self.numbers[0])?;
         writeln!(out, "rows {} cells {} deepest {}", self.rows, self.cells, self.deepest)?;
+        let [cuts, rows, cells] = self.cuts;
+        writeln!(out, "cut after a call {cuts} rows {rows} cells {cells}")?;
+        writeln!(out, "calls not cut after, though others follow {}", self.uncut)?;
         line(out, "refusals", &self.numbers, 1)?;
         line(out, "rules", &self.rules, 0)?;
         let (numbers, rules) = self.missing();
         writeln!(out, "refusals not met {numbers:?} rules not met {rules:?}")
     }
+}
+
+fn add(sums: &mut [u64], counts: &[u64]) {
+    for (sum, count) in sums.iter_mut().zip(counts) {
+        *sum += count;
+    }
+}
+
+/// A count as documents have it: 1,234,567.
+fn with_commas(count: u64) -> String {
+    let digits = count.to_string();
+    let places = digits.len();
+    let mut out = String::new();
+    for (i, digit) in digits.chars().enumerate() {
+        if i > 0 && (places - i).is_multiple_of(3) {
+            out.push(',');
+        }
+        out.push(digit);
+    }
+    out
 }
 
 /// `number:count`, ten to a line.

@@ -1,7 +1,9 @@
 //! That the slices go over as they should, and that no word can be wrong unseen.
+use crate::cuts::{ends, Stood};
 use crate::program::{play, Left, Lent, FILLS};
 use crate::same::compare;
 use crate::shrink::shrunk;
+use crate::tally::Tally;
 use crate::work::Sides;
 use generator::Case;
 use oracle::{on_large_stack, Options, Ran, Slices};
@@ -58,9 +60,13 @@ impl Words {
         })
     }
 
-    fn same(&self, ran: &Ran) -> bool {
+    fn left(&self) -> Left<'_> {
         let [rows, cells, answers] = &self.slices;
-        compare(&Left { result: self.result, rows, cells, answers }, ran).is_ok()
+        Left { result: self.result, rows, cells, answers }
+    }
+
+    fn same(&self, ran: &Ran) -> bool {
+        compare(&self.left(), ran).is_ok()
     }
 }
 
@@ -123,12 +129,73 @@ fn numbers_of_cells_are_open() {
     let (mut words, ran) = (Words::of(&case), ran(&case));
     // zero and nat change places: 1 and 2.
     let cells = &mut words.slices[1];
-    for (i, node) in [[3, 0, 0, 0, 1, 0], [4, 0, 0, 0, 2, 0], [40, 0, 0, 2, 1, 1]].iter().enumerate() {
+    for (i, node) in
+        [[3, 0, 0, 0, 1, 0], [4, 0, 0, 0, 2, 0], [40, 0, 0, 2, 1, 1]].iter().enumerate()
+    {
         cells[8 + i * 8..14 + i * 8].copy_from_slice(node);
     }
     assert!(!words.same(&ran), "the row still has the old numbers");
     words.slices[0][24 + 15..24 + 17].copy_from_slice(&[2, 1]);
     assert!(words.same(&ran));
+}
+
+/// infer lam(nat, zero), and then a call that is refused: check lam(u 0, zero) at
+/// nat. Both terms have one quote.
+const ALIKE: [u8; 16] = [100, 0, 2, 0, 0, 6, 3, 4, 3, 0, 0, 6, 1, 0, 4, 3];
+
+/// The run cut after its first call, and whole.
+fn alike() -> [Case; 2] {
+    let slices = [60 * 24, 200 * 8, 40];
+    [&ALIKE[..8], &ALIKE].map(|bytes| Case { slices, bytes: bytes.to_vec() })
+}
+
+#[test]
+fn a_run_is_cut_after_each_call() {
+    assert_eq!(ends(&ALIKE, 0), [16]);
+    assert_eq!(ends(&ALIKE, 1), [8, 16]);
+    assert_eq!(ends(&ALIKE, 9), [8, 16]);
+    assert_eq!(ends(&ALIKE[..15], 9), [15], "the last call ends early");
+    assert_eq!(ends(&[[100, 0].as_slice(), &[0; 9]].concat(), 9), [5, 8, 11]);
+    assert_eq!(ends(&ALIKE[..2], 9), [2]);
+}
+
+/// A word of an older entry that a later call made another shows, but for a row's
+/// working words and what a cell remembers.
+#[test]
+fn every_older_word_stands() {
+    let [before, after] = alike().map(|case| Words::of(&case));
+    let stood = Stood::of(&before.left());
+    assert!(stood.kept(&after.left()).is_ok());
+    let [_, _, calls, rows, cells, _] = before.result.map(|n| n as usize);
+    assert!(after.result[3] as usize > rows && after.result[4] as usize > cells);
+    for (slice, count, size, fixed) in [(0, rows, 24, 18), (1, cells, 8, 4), (2, calls, 4, 4)] {
+        // All that stood, and the first word of what came after.
+        for i in 0..=count * size {
+            let mut wrong = after.clone();
+            wrong.slices[slice][i] ^= 1;
+            let open = i == count * size || i % size >= fixed;
+            assert_eq!(stood.kept(&wrong.left()).is_ok(), open, "slice {slice} word {i}");
+        }
+        let mut fewer = after.clone();
+        fewer.result[[3, 4, 2][slice]] = count as u32 - 1;
+        assert!(stood.kept(&fewer.left()).is_err(), "slice {slice} has one less");
+    }
+}
+
+/// Another cell with the same quote, put into an older row: the run's end doesn't
+/// show it, and the cut does.
+#[test]
+fn an_older_row_keeps_its_cells() {
+    let [cut, whole] = alike();
+    let stood = Stood::of(&Words::of(&cut).left());
+    let (mut words, ran) = on_large_stack(|| (Words::of(&whole), ran(&whole)));
+    let lams: Vec<u32> = (0..ran.cells).filter(|i| words.slices[1][*i as usize * 8] == 6).collect();
+    let [nat, universe] = lams[..] else { panic!("two lams: {lams:?}") };
+    let rows = &words.slices[0];
+    let at = (0..words.result[3] as usize).find(|i| rows[i * 24] == 82 && rows[i * 24 + 15] == nat);
+    words.slices[0][at.unwrap() * 24 + 15] = universe;
+    assert!(words.same(&ran));
+    assert!(stood.kept(&words.left()).is_err());
 }
 
 #[test]
@@ -143,7 +210,7 @@ fn a_shrunk_run_is_the_smallest() {
 #[test]
 fn some_runs_compare() {
     on_large_stack(|| {
-        let mut sides = Sides::new(1_000_000);
+        let mut sides = Sides::new(1_000_000, 0);
         for place in 0..300 {
             sides.compare(&generator::case(5, place)).unwrap();
         }
@@ -151,4 +218,31 @@ fn some_runs_compare() {
         assert!(sides.tally.numbers[0] > 300);
     });
     assert!(FILLS.iter().all(|fill| *fill > 65_535));
+}
+
+#[test]
+fn the_parts_at_scale_can_be_asked_for() {
+    for part in crate::PARTS {
+        assert!(crate::asked(&part.split(' ').collect::<Vec<_>>()).is_some(), "{part}");
+    }
+    let tally = Tally { runs: 1_503_582, inside: 100, calls: 1_000, ..Tally::default() };
+    let mut line = String::new();
+    tally.write_line(&mut line, "together").unwrap();
+    assert_eq!(line, "| together | 1,503,582 | 100 | 0 | 0 | 0 | 1,000 | 0 | 0 |\n");
+}
+
+/// Cuts change nothing that is counted of the whole runs, and are all made.
+#[test]
+fn some_runs_compare_when_cut() {
+    on_large_stack(|| {
+        let [mut whole, mut cut] = [0, 9_999].map(|cuts| Sides::new(1_000_000, cuts));
+        for case in (0..300).map(|place| generator::case(6, place)) {
+            whole.compare(&case).unwrap();
+            cut.compare(&case).unwrap();
+        }
+        let (whole, cut) = (whole.tally, cut.tally);
+        assert_eq!((whole.runs, whole.calls, whole.rows), (cut.runs, cut.calls, cut.rows));
+        assert_eq!((whole.cuts[0], cut.uncut), (0, 0));
+        assert!(whole.uncut > 300 && cut.cuts[0] >= whole.uncut);
+    });
 }

@@ -38,7 +38,7 @@ struct Vector {
 
 /// Writes the two files, and says what the runs meet.
 pub fn write(seed: u64, folder: &Path) -> Result<String> {
-    let mut sides = Sides::new(10_000_000);
+    let mut sides = Sides::new(10_000_000, 0);
     let mut chosen = by_hand(&mut sides);
     by_chance(&mut sides, seed, &mut chosen);
     let mut tally = Tally::default();

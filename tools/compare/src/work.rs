@@ -1,5 +1,6 @@
 //! Many runs on several threads, until the first difference.
-use crate::program::Lent;
+use crate::cuts::{ends, Stood};
+use crate::program::{Left, Lent};
 use crate::same::{compare, Difference};
 use crate::shown::{oracle_text, program_text};
 use crate::shrink::shrunk;
@@ -25,6 +26,8 @@ pub struct Asked {
     pub full: bool,
     pub work: u64,
     pub threads: usize,
+    /// After how many of its first calls each run is cut too.
+    pub cuts: usize,
 }
 
 /// A difference, the run that shows it and its place.
@@ -63,7 +66,7 @@ impl Asked {
             for _ in 0..self.threads {
                 let thread = std::thread::Builder::new().stack_size(STACK);
                 let work = || {
-                    let mut side = Sides::new(self.work);
+                    let mut side = Sides::new(self.work, self.cuts);
                     let some = self.work_off(&mut side, &next, &stop);
                     total.lock().unwrap().join(&side.tally);
                     found.lock().unwrap().extend(some);
@@ -111,27 +114,46 @@ fn enlarge(case: &mut Case) {
 pub struct Sides {
     lent: Lent,
     options: Options,
+    cuts: usize,
     pub tally: Tally,
 }
 
 impl Sides {
-    pub fn new(work: u64) -> Self {
+    pub fn new(work: u64, cuts: usize) -> Self {
         let options = Options { work, ..Options::default() };
-        Self { lent: Lent::default(), options, tally: Tally::default() }
+        Self { lent: Lent::default(), options, cuts, tally: Tally::default() }
     }
 
     pub fn oracle(&self, case: &Case) -> Option<Ran> {
-        let [rows, cells, answers] = case.slices;
-        play(&case.bytes, Slices { rows, cells, answers }, &self.options)
+        self.oracle_of(&case.bytes, case.slices)
     }
 
+    fn oracle_of(&self, bytes: &[u8], [rows, cells, answers]: [u32; 3]) -> Option<Ran> {
+        play(bytes, Slices { rows, cells, answers }, &self.options)
+    }
+
+    /// The run, and before it each of its cuts: the same slices, fewer calls.
     pub fn compare(&mut self, case: &Case) -> Result<(), Difference> {
-        let Some(ran) = self.oracle(case) else {
-            self.tally.slow += 1;
-            return Ok(());
-        };
-        self.lent.play(&case.bytes, case.slices, |left| compare(left, &ran))?;
-        self.tally.add(case.slices, &ran);
+        let mut stood = Stood::default();
+        let ends = ends(&case.bytes, self.cuts);
+        for &end in &ends {
+            let bytes = &case.bytes[..end];
+            let Some(ran) = self.oracle_of(bytes, case.slices) else {
+                self.tally.slow += 1;
+                return Ok(());
+            };
+            let met = self.lent.play(bytes, case.slices, |left| {
+                compare(left, &ran).and_then(|()| stood.kept(left))
+            });
+            if end < case.bytes.len() {
+                stood = met.map_err(|difference| format!("cut at byte {end}: {difference}"))?;
+                self.tally.add_cut(&ran);
+            } else {
+                met?;
+                self.tally.add(case.slices, &ran);
+                self.tally.uncut += ran.answers.len().saturating_sub(ends.len()) as u64;
+            }
+        }
         Ok(())
     }
 
@@ -139,10 +161,11 @@ impl Sides {
     pub fn explain(&mut self, found: Found) -> String {
         let case = shrunk(found.case.clone(), &mut |case| self.compare(case).is_err());
         let difference = self.compare(&case).expect_err("the shrunk run shows no difference");
-        let ran = self.oracle(&case).unwrap();
-        let texts = self
-            .lent
-            .play(&case.bytes, case.slices, |left| [program_text(left, &ran), oracle_text(&ran)]);
+        // None where a cut differs and the whole is too slow for the oracle.
+        let texts = self.oracle(&case).map(|ran| {
+            let play = |left: &Left| [program_text(left, &ran), oracle_text(&ran)];
+            self.lent.play(&case.bytes, case.slices, play)
+        });
         let mut out = String::new();
         writeln!(out, "DIFFERENCE at place {}: {}", found.place, found.difference).unwrap();
         writeln!(out, "smallest run: {difference}").unwrap();
@@ -150,7 +173,8 @@ impl Sides {
         let hex: String = case.bytes.iter().map(|byte| format!("{byte:02x}")).collect();
         let bytes: Vec<String> = case.bytes.iter().map(u8::to_string).collect();
         writeln!(out, "hex {hex}\nbytes {}", bytes.join(" ")).unwrap();
-        for (name, text) in ["the program:", "the oracle:"].iter().zip(texts) {
+        for (name, text) in ["the program:", "the oracle:"].iter().zip(texts.into_iter().flatten())
+        {
             writeln!(out, "{name}\n{text}").unwrap();
         }
         out
