@@ -1,14 +1,15 @@
 -- What is read back from words that stand for a state is the state's table.
 use Prim.Native.Nat.{ℕ, suc, _+_, _*_, _≤_, _<_}
-use mathlib.Core.Path.{_≡_, refl, ap, _∙_}
-use mathlib.Core.List.{List, [], _∷_, _++_}
+use mathlib.Core.Path.{_≡_, refl, sym, ap, _∙_}
+use mathlib.Core.List.{List, [], _∷_, _++_, append-assoc}
 use mathlib.Core.Option.{Option, none, some}
 use mathlib.Core.Bool.{Bool, true, false}
 use native.Mathlib.Decide.{decLt}
 use native.Mathlib.Omega.{arith}
 use native.Mathlib.Nat.{add-zero}
-use lib.ListN.{length, getD, drop, take}
+use lib.ListN.{length, getD, drop, take, List·getD-append}
 use lib.Dec.{ltb, T, lt→ltb, lit<}
+use Rattle.producer.specs.declared.rows.Refs.{Refs}
 use Rattle.producer.specs.Machine.{Machine}
 use Rattle.walk.specs.Syntax.{Interval, Term, Context, Quote, Quotes, quote, quotes}
 use Rattle.walk.specs.Judgment.{Judgment, number, arguments}
@@ -17,9 +18,10 @@ use Rattle.walk.specs.State.{State, Row, Thing, term, interval, context, infere
 use Rattle.walk.specs.Demand.{Row-at, newest, older, Cites, none-cited, _also_, Row-follows, Derivation-order}
 use Rattle.link.specs.Lists.{Nth, here, there, nth-below, nth-lift, Extends, same, more, extends-trans, first-passes, read}
 use Rattle.link.specs.Things.{Shown, shown?, show, shows, yes-true, Cell, Low, cell-nth, Plain}
-use Rattle.link.specs.Tables.{Shape, s-plain, s-universe, s-var, s-nat, s-zero, s-pi, s-lam, s-app, s-path, s-plam, s-papp, s-i0, s-i1, s-dim, s-neg, s-meet, s-join, s-nil, s-cons, Spoken, j-ctx, j-dshiftctx, j-lookup, j-lt, j-le, j-max, j-interval, j-ishift, j-isubst, j-shift, j-subst, j-dshift, j-dsubst, j-has, j-eq}
-use Rattle.link.specs.Store.{Block, plain, remembered, Line, line, Cells}
-use Rattle.link.specs.Holds.{Before, Holds}
+use Rattle.link.specs.Tables.{Shape, s-plain, s-universe, s-var, s-nat, s-zero, s-pi, s-lam, s-app, s-path, s-plam, s-papp, s-i0, s-i1, s-dim, s-neg, s-meet, s-join, s-nil, s-cons, Spoken, j-ctx, j-dshiftctx, j-lookup, j-lt, j-le, j-max, j-interval, j-ishift, j-isubst, j-shift, j-subst, j-dshift, j-dsubst, j-has, j-eq, j-lift, j-words}
+use Rattle.link.specs.Store.{refs-of, Block, plain, remembered, Line, line, Cells}
+use Rattle.link.specs.Store.{row-words as row-of}
+use Rattle.link.specs.Holds.{Before, Holds, part-of}
 use Rattle.link.specs.Concludes.{reads, concludes, few-premises}
 use Rattle.link.specs.Table.{_>>=_, lower, interval-by, quote-by, ckinds, context-by, interval-at, quote-at, context-at, below, an-interval, a-quote, a-context, read-ctx, read-dshiftctx, read-lookup, read-lt, read-le, read-max, read-interval, read-ishift, read-isubst, read-shift, read-subst, read-dshift, read-dsubst, read-has, read-eq, cited-at, row-at, table-at, Stands-for, Row-words, term-by, scope-by, term-at, scope-at, Memory-cell, Holds-thing, Among, this-thing, other-thing, Cell-of, Thing-of}
 
@@ -235,6 +237,10 @@ nth-row : {n : ℕ} {r : Row} {rs : List Row} → Nth n r rs → Row-at n r rs
 nth-row (here e) = newest e
 nth-row (there h) = older (nth-row h)
 
+row-nth : {n : ℕ} {r : Row} {rs : List Row} → Row-at n r rs → Nth n r rs
+row-nth (newest e) = here e
+row-nth (older h) = there (row-nth h)
+
 -- a row
 row-back : {xs : List Thing} {ws : List ℕ} (rest : List ℕ) → Cells xs ws → (R : List ℕ) (i : ℕ) (rs lower : List Row) (r : Row) (bs : List ℕ) → Row-follows rs r → Line xs lower r bs → ((k : ℕ) → k < 24 → getD R (i * 24 + k) 0 ≡ getD bs k 0) → row-at (length xs) R (ws ++ rest) i ≡ some r
 unfolding row-at cited-at _>>=_
@@ -249,18 +255,60 @@ unfolding table-at _>>=_
 rows-back n R C [] h = refl
 rows-back n R C (r ∷ rs) h = rw (h (length rs) r (here refl), rows-back n R C rs (λ i s k. h i s (there k)))
 
+-- the words of a row before its working words, whatever those are
+tops-same : (rule : ℕ) (l : Refs) (kind count a b c d e m n o p m′ n′ o′ p′ k : ℕ) → k < 18 → getD (row-of rule l kind count a b c d e m′ n′ o′ p′) k 0 ≡ getD (row-of rule l kind count a b c d e m n o p) k 0
+tops-same rule l kind count a b c d e m n o p m′ n′ o′ p′ k h =
+    let tops = take 20 (row-of rule l kind count a b c d e m n o p) in
+    List·getD-append tops (m′ ∷ n′ ∷ o′ ∷ p′ ∷ []) 0 k (omega arith) ∙ sym (List·getD-append tops (m ∷ n ∷ o ∷ p ∷ []) 0 k (omega arith))
+
+-- A row of earlier words has the same words now, but for the working ones: each argument that is a cell is the lowest with its quote,
+-- which one that came later cannot be.
+record Line-stays (xs : List Thing) (rs : List Row) (r : Row) (bs bs′ : List ℕ) : Type 0 where
+  is : Line xs rs r bs′
+  tops : (k : ℕ) → k < 18 → getD bs′ k 0 ≡ getD bs k 0
+
+line-stays : {xs ys : List Thing} {rs rs′ : List Row} {r : Row} {bs bs′ : List ℕ} → Extends xs ys → Line xs rs r bs → Line ys rs′ r bs′ → Line-stays xs rs r bs bs′
+line-stays x (line {kind} {count} {a} {b} {c} {d} {e} {m} {n} {o} {p} {r} s) (line {kind = kind′} {count = count′} {a = a′} {b = b′} {c = c′} {d = d′} {e = e′} {m = m′} {n = n′} {o = o′} {p = p′} s′) =
+    let w = j-words (j-lift x s) s′ in
+    let q₀ : kind ≡ kind′ = cc in
+    let q₁ : count ≡ count′ = cc in
+    let q₂ : a ≡ a′ = cc in
+    let q₃ : b ≡ b′ = cc in
+    let q₄ : c ≡ c′ = cc in
+    let q₅ : d ≡ d′ = cc in
+    let q₆ : e ≡ e′ = cc in
+    let t : row-of (r .rule) (refs-of (r .refs)) kind′ count′ a′ b′ c′ d′ e′ m n o p ≡ row-of (r .rule) (refs-of (r .refs)) kind count a b c d e m n o p = cc in
+    record {
+      is = line (rw (q₀, q₁, q₂, q₃, q₄, q₅, q₆) at s);
+      tops = λ k l. tops-same (r .rule) (refs-of (r .refs)) kind′ count′ a′ b′ c′ d′ e′ m n o p m′ n′ o′ p′ k l ∙ ap (λ (v : List ℕ). getD v k 0) t;
+    }
+
+-- the rows that earlier words stood for: over the cells that were in use then, and their words
+module _ {o o′ : Before} {w w′ : Machine} {s s′ : State} (h : Holds o w s) (h′ : Holds o′ w′ s′) (f : Extends (s .rows) (s′ .rows)) (e : Extends (s .cells) (s′ .cells)) where
+  abbrev past : List ℕ
+  past = drop (length (s .rows) * 24) (o .rows)
+
+  abbrev past′ : List ℕ
+  past′ = drop (length (s′ .rows) * 24) (o′ .rows)
+
+  pub rows-stay : Derivation-order (s .rows) → table-at (length (s .rows)) (length (s .cells)) (w′ .rows) (w′ .cells) ≡ some (s .rows)
+  rows-stay d =
+      let p = part-of e (h′ .words .cells-are) in
+      rw (h′ .words .cells-end, p .split, append-assoc) (rows-back (length (s .cells)) (w′ .rows) _ (s .rows) λ i r k.
+      let q = read past k (h .words .rows-are) in
+      let q′ = read past′ (nth-lift f k) (h′ .words .rows-are) in
+      rw (h′ .words .rows-end) (row-back _ (p .are) _ i (s .rows) (q .below) r (q′ .words) (d .follows i r (nth-row k)) (line-stays e (q .is) (q′ .is) .is) (q′ .at)))
+
+  pub words-stay : {r : Row} (i k : ℕ) → Row-at i r (s .rows) → k < 18 → getD (w′ .rows) (i * 24 + k) 0 ≡ getD (w .rows) (i * 24 + k) 0
+  words-stay i k n l =
+      let q = read past (row-nth n) (h .words .rows-are) in
+      let q′ = read past′ (nth-lift f (row-nth n)) (h′ .words .rows-are) in
+      rw (h .words .rows-end, h′ .words .rows-end) (q′ .at k (omega arith) ∙ line-stays e (q .is) (q′ .is) .tops k l ∙ sym (q .at k (omega arith)))
+
 pub table-back : {o : Before} {w : Machine} {s : State} → Holds o w s → Derivation-order (s .rows) → table-at (w .state .rows) (w .state .cells) (w .rows) (w .cells) ≡ some (s .rows)
-table-back {o} {w} {s} h d =
-    let rest = drop (length (s .cells) * 8) (o .cells) in
-    rw (h .counts, h .words .cells-end) (rows-back (length (s .cells)) (w .rows) _ (s .rows) λ i r k.
-    let q = read (drop (length (s .rows) * 24) (o .rows)) k (h .words .rows-are) in
-    rw (h .words .rows-end) (row-back rest (h .words .cells-are) _ i (s .rows) (q .below) r (q .words) (d .follows i r (nth-row k)) (q .is) (q .at)))
+table-back h d = rw (h .counts) (rows-stay h h same same d)
 
 -- the words of a row, one by one
-
-row-nth : {n : ℕ} {r : Row} {rs : List Row} → Row-at n r rs → Nth n r rs
-row-nth (newest e) = here e
-row-nth (older h) = there (row-nth h)
 
 under-5 : (P : ℕ → Type 0) → P 0 → P 1 → P 2 → P 3 → P 4 → (k : ℕ) → k < 5 → P k
 under-5 P a b c d e ℕ.zero m = a
@@ -350,12 +398,15 @@ numbered (x ∷ xs) n l = go (decLt n (length xs)) (numbered xs n)
     go (yes k) ih = let r = ih k in record { one = r .one; nth = there (r .nth); among = other-thing (r .among) }
     go (no k) ih = record { one = x; nth = let e : n ≡ length xs = omega arith in here e; among = this-thing }
 
-pub cell-of-thing : {o : Before} {w : Machine} {s : State} {x : Thing} → Holds o w s → Among x (s .cells) → Cell-of (w .state .cells) (w .cells) x
-cell-of-thing {o} {w} {s} {x} h a =
-    let (n, k) = among-nth a in
-    rw (h .counts, h .words .cells-end) (record { at = n; used = nth-below k; holds = thing-back (drop (length (s .cells) * 8) (o .cells)) (h .words .cells-are) n x k })
+-- over those that were in use when the things were xs
+module _ {o : Before} {w : Machine} {s : State} (h : Holds o w s) {xs : List Thing} (e : Extends xs (s .cells)) where
+  held-back : (n : ℕ) (x : Thing) → Nth n x xs → Holds-thing (length xs) (w .cells) n x
+  held-back n x k =
+      let p = part-of e (h .words .cells-are) in
+      rw (h .words .cells-end, p .split, append-assoc) (thing-back _ (p .are) n x k)
 
-pub thing-of-cell : {o : Before} {w : Machine} {s : State} (i : ℕ) → Holds o w s → i < w .state .cells → Thing-of (w .state .cells) (w .cells) (s .cells) i
-thing-of-cell {o} {w} {s} i h l =
-    let r = numbered (s .cells) i (rw (h .counts) at l) in
-    rw (h .counts, h .words .cells-end) (record { thing = r .one; among = r .among; holds = thing-back (drop (length (s .cells) * 8) (o .cells)) (h .words .cells-are) i (r .one) (r .nth) })
+  pub cell-of-thing : {x : Thing} → Among x xs → Cell-of (length xs) (w .cells) x
+  cell-of-thing {x} a = let (n, k) = among-nth a in record { at = n; used = nth-below k; holds = held-back n x k }
+
+  pub thing-of-cell : (i : ℕ) → i < length xs → Thing-of (length xs) (w .cells) xs i
+  thing-of-cell i l = let r = numbered xs i l in record { thing = r .one; among = r .among; holds = held-back i (r .one) (r .nth) }

@@ -80,7 +80,7 @@ afresh-holds h = record { words = h .words; counts = rw (h .counts); cells-fit =
 turned-leaves : {o : Before} {w : Machine} {s : State} (n : ℕ) → Fit s → Holds o w s → Leaves o (s .cells) (turned n, w) (R.refusal n 0, s)
 turned-leaves n f h = record { extends = same; holds = h; fit = f; says = record { number = refl; row = refl; deepest = refl; result = no-word } }
 
-asked-sized : {o : Before} {w : Machine} {s : State} (call : Call) → Fit s → Holds o w s → Leaves o (s .cells) (ask-sized (size-call call) call w) (play call s)
+pub asked-sized : {o : Before} {w : Machine} {s : State} (call : Call) → Fit s → Holds o w s → Leaves o (s .cells) (ask-sized (size-call call) call w) (play call s)
 unfolding play play-sized ask-sized with-deepest
 asked-sized {o} {w} {s} call f h = go (size-call call) refl
   where

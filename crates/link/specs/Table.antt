@@ -10,7 +10,7 @@ use lib.Dec.{ltb}
 use Rattle.walk.specs.Syntax.{Interval, I0, I1, Dim, Neg, Meet, Join, Term, Universe, Var, Nat, Zero, Pi, Lam, App, Path, PathLam, PathApp, Context, Nil, Cons, Quote, u, v, nat, zero, pi, lam, app, path, plam, papp, Quotes, nil, cons, quote}
 use Rattle.walk.specs.Judgment.{Judgment, Argument, number, of-interval, of-quote, of-context, arguments, ctx, dshiftctx, lookup, lt, le, max, interval, ishift, isubst, shift, subst, dshift, dsubst, has, eq}
 use Rattle.walk.specs.Reader.{Kind, k-u, k-v, k-nat, k-zero, k-pi, k-lam, k-app, k-path, k-plam, k-papp, IKind, k-0, k-1, k-dim, k-neg, k-meet, k-join, kinds, ikinds, Call}
-use Rattle.walk.specs.State.{Row, Thing, term, inference, key}
+use Rattle.walk.specs.State.{State, Row, Thing, term, inference, key}
 use Rattle.walk.specs.State as S
 use Rattle.walk.specs.Run.{Result, no-result, a-level, a-term, Answer}
 use Rattle.walk.specs.Demand.{At, judgment-of}
@@ -270,3 +270,10 @@ pub record Thing-of (n : ℕ) (C : List ℕ) (xs : List Thing) (i : ℕ) : Type 
   pub thing : Thing
   pub among : Among thing xs
   pub holds : Holds-thing n C i thing
+
+-- What some calls left is there, over words that more calls may have added to: their rows, which name cells that were in use then
+-- and no later ones, and those cells.
+pub record Stays (s : State) (R C : List ℕ) : Type 0 where
+  pub rows : table-at (length (s .rows)) (length (s .cells)) R C ≡ some (s .rows)
+  pub each-cell : (x : Thing) → Among x (s .cells) → Cell-of (length (s .cells)) C x
+  pub each-thing : (i : ℕ) → i < length (s .cells) → Thing-of (length (s .cells)) C (s .cells) i

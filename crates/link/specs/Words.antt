@@ -15,21 +15,25 @@ use Rattle.walk.specs.Refusal as Refusal
 use Rattle.walk.specs.State.{State, Row, Thing}
 use Rattle.walk.specs.Reader.{Read, got, bad, Call, read-run}
 use Rattle.walk.specs.Limits.{size-call}
-use Rattle.walk.specs.Run.{Result, Answer, Ran, refused-run, played, play-all, run-read, run}
+use Rattle.walk.specs.Run.{Result, Answer, Ran, refused-run, played, play, play-all, run-read, run}
 use Rattle.walk.specs.Run as R
 use Rattle.walk.specs.Demand.{Row-at, newest, older, Derivation-order, Demand-3}
-use Rattle.walk.specs.Calls.{play-all-left}
+use Rattle.walk.specs.Demand.{Extends as Grows}
+use Rattle.walk.specs.Sound.Logic.{Good}
+use Rattle.walk.specs.Calls.{play-left, play-all-left}
+use Rattle.order.specs.Bound.{Fit}
+use Rattle.order.specs.Never.{start-fits}
 use Rattle.order.specs.Cases.{run-cases}
 use Rattle.order.specs.Counts.{played-counts}
 use Rattle.order.specs.Derivation.{derivation-order}
 use Rattle.order.specs.Theorem.{start-good, demand-3}
-use Rattle.link.specs.Lists.{blocks-length, stays}
+use Rattle.link.specs.Lists.{Extends, same, more, blocks-length, stays}
 use Rattle.link.specs.Holds.{Before, Holds}
 use Rattle.link.specs.Asked.{Said, ask-sized, ask-all, start, four-words, written-over}
-use Rattle.link.specs.Table.{table-at, Row-words, Result-word, Answer-words, Answer-at, this-answer, later-answer, Among, this-thing, other-thing, Cell-of, Thing-of}
-use Rattle.link.specs.Back.{table-back, row-words, answer-back, cell-of-thing, thing-of-cell}
-use Rattle.link.specs.Ends.{past, past-cells}
-use Rattle.link.specs.Runs.{Results, no-word, level-word, term-word, All-say, none-say, says-on, runs}
+use Rattle.link.specs.Table.{table-at, Row-words, Result-word, Answer-words, Answer-at, this-answer, later-answer, Among, this-thing, other-thing, Cell-of, Thing-of, Stays}
+use Rattle.link.specs.Back.{rows-stay, words-stay, table-back, row-words, answer-back, cell-of-thing, thing-of-cell}
+use Rattle.link.specs.Ends.{starts, past, past-cells}
+use Rattle.link.specs.Runs.{Results, no-word, level-word, term-word, All-say, none-say, says-on, asked-all, asked-sized, runs}
 
 -- what the machine leaves, in slices that held rows, cells and answers before; A: the answers after it
 pub record Ran-words (rows cells answers : List ℕ) (ran : Ran) (w : Machine) (A : List ℕ) : Type 0 where
@@ -44,6 +48,8 @@ pub record Ran-words (rows cells answers : List ℕ) (ran : Ran) (w : Machine) (
   -- each cell's words
   pub each-cell : (x : Thing) → Among x (ran .last .cells) → Cell-of (w .state .cells) (w .cells) x
   pub each-thing : (i : ℕ) → i < w .state .cells → Thing-of (w .state .cells) (w .cells) (ran .last .cells) i
+  -- what the first calls left is there
+  pub stays : (first others : List Call) → ran .calls ≡ first ++ others → Stays (play-all first (R.start (ran .limit) (length rows) (length cells)) .1) (w .rows) (w .cells)
   -- the slices keep their lengths, and the words past those used stay
   pub rows-length : length (w .rows) ≡ length rows
   pub cells-length : length (w .cells) ≡ length cells
@@ -84,6 +90,48 @@ said-calls (call ∷ calls) w = let e = said-calls calls (ask-sized (size-call c
 abbrev pub Asked-words : (rows cells answers : List ℕ) → Ran → Type 0
 Asked-words rows cells answers ran = Ran-words rows cells answers ran (ask-all (ran .calls) (start (ran .limit) rows cells) .1) (written-over (four-words (ask-all (ran .calls) (start (ran .limit) rows cells) .0)) answers)
 
+-- the first calls of a list: the others only add rows and cells
+first-rows : (first others : List Call) (s : State) → Good s → Grows (play-all first s .1 .rows) (play-all (first ++ others) s .1 .rows)
+unfolding play-all
+first-rows [] others s g = play-all-left others s g .grows
+first-rows (call ∷ first) others s g = first-rows first others (play call s .1) (play-left call s g .good)
+
+first-cells : {o : Before} {w : Machine} {s : State} (first others : List Call) → Fit s → Holds o w s → Extends (play-all first s .1 .cells) (play-all (first ++ others) s .1 .cells)
+unfolding play-all
+first-cells [] others f h = asked-all others f h .extends
+first-cells (call ∷ first) others f h = let a = asked-sized call f h in first-cells first others (a .fit) (a .holds)
+
+extends : {rs rs′ : List Row} → Grows rs rs′ → Extends rs rs′
+extends Grows.same = same
+extends (Grows.more e) = more (extends e)
+
+-- what the first calls leave, over the words of them all
+module _ (limit : ℕ) (rows cells : List ℕ) (first others : List Call) (most : limit ≤ 4096) where
+  abbrev began : State
+  began = R.start limit (length rows) (length cells)
+
+  more-rows : Extends (play-all first began .1 .rows) (play-all (first ++ others) began .1 .rows)
+  more-rows = extends (first-rows first others began (start-good limit (length rows) (length cells)))
+
+  more-cells : Extends (play-all first began .1 .cells) (play-all (first ++ others) began .1 .cells)
+  more-cells = first-cells first others (start-fits limit (length rows) (length cells) most) (starts limit rows cells)
+
+  first-order : Derivation-order (play-all first began .1 .rows)
+  first-order = derivation-order (play-all-left first began (start-good limit (length rows) (length cells)) .good .order)
+
+  first-stays : Stays (play-all first began .1) (ask-all (first ++ others) (start limit rows cells) .1 .rows) (ask-all (first ++ others) (start limit rows cells) .1 .cells)
+  first-stays =
+      let h = runs limit rows cells (first ++ others) most .holds in
+      record {
+        rows = rows-stay (runs limit rows cells first most .holds) h more-rows more-cells first-order;
+        each-cell = λ x a. cell-of-thing h more-cells a;
+        each-thing = λ i l. thing-of-cell h more-cells i l;
+      }
+
+  -- the words themselves, of the rows that the first calls made: all but the working words are what they were
+  pub first-words : {r : Row} (i k : ℕ) → Row-at i r (play-all first began .1 .rows) → k < 18 → getD (ask-all (first ++ others) (start limit rows cells) .1 .rows) (i * 24 + k) 0 ≡ getD (ask-all first (start limit rows cells) .1 .rows) (i * 24 + k) 0
+  first-words = words-stay (runs limit rows cells first most .holds) (runs limit rows cells (first ++ others) most .holds) more-rows more-cells
+
 -- a list of calls
 module _ (limit : ℕ) (rows cells answers : List ℕ) (calls : List Call) (most : limit ≤ 4096) (fit : 4 * length calls ≤ length answers) where
   in-order : Derivation-order (play-all calls (R.start limit (length rows) (length cells)) .1 .rows)
@@ -100,8 +148,9 @@ module _ (limit : ℕ) (rows cells answers : List ℕ) (calls : List Call) (most
         each-answer = λ k a. each-answered h _ k a (r .says);
         each-row = λ i r k. row-words h k;
         table = table-back h in-order;
-        each-cell = λ x a. cell-of-thing h a;
-        each-thing = λ i l. thing-of-cell i h l;
+        each-cell = rw (h .counts) (λ x a. cell-of-thing h same a);
+        each-thing = rw (h .counts) (λ i l. thing-of-cell h same i l);
+        stays = λ first others e. rw e (first-stays limit rows cells first others most);
         rows-length =
             let e = blocks-length (h .words .rows-are) in
             let c = played-counts limit calls (length rows) (length cells) most .rows in
@@ -131,6 +180,12 @@ no-thing : {x : Thing} {xs : List Thing} → Among x xs → xs ≡ [] → ⊥
 no-thing this-thing q = let z : _≡_ {A = ℕ} 0 1 = cc in omega arith
 no-thing (other-thing a) q = let z : _≡_ {A = ℕ} 0 1 = cc in omega arith
 
+-- where there are no calls there are no first ones
+none-first : (first others : List Call) (s : State) (R C : List ℕ) → s .rows ≡ [] → s .cells ≡ [] → [] ≡ first ++ others → Stays (play-all first s .1) R C
+unfolding play-all table-at
+none-first [] others s R C p q e = record { rows = rw p; each-cell = λ x a. absurd (no-thing a q); each-thing = λ i l. absurd (omega (arith, rw q at l)) }
+none-first (call ∷ first) others s R C p q e = let z : _≡_ {A = ℕ} 0 1 = cc in absurd (omega arith)
+
 refused-words : (rows cells answers : List ℕ) (n place : ℕ) → Asked-words rows cells answers (refused-run n place)
 unfolding ask-all start R.start table-at four-words written-over
 refused-words rows cells answers n place = record {
@@ -141,6 +196,7 @@ refused-words rows cells answers n place = record {
   table = refl;
   each-cell = λ x a. absurd (no-thing a refl);
   each-thing = λ i l. absurd (omega (arith, l));
+  stays = λ first others. none-first first others _ rows cells refl refl;
   rows-length = refl;
   cells-length = refl;
   answers-length = refl;

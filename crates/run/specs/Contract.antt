@@ -12,7 +12,7 @@ use Rattle.walk.specs.Reader.{Call}
 use Rattle.walk.specs.Run.{Answer, play-all, start}
 use Rattle.walk.specs.Run as W
 use Rattle.walk.specs.Demand.{At, Row-at, Derivation-order, Distinct, Derives, cut, Extends}
-use Rattle.link.specs.Table.{table-at, Answer-at, Answer-words, Call-at, States, Row-words, Among, Cell-of, Thing-of}
+use Rattle.link.specs.Table.{table-at, Answer-at, Answer-words, Call-at, States, Row-words, Among, Cell-of, Thing-of, Stays}
 use Rattle.run.specs.declared.entry.Ran.{Ran}
 
 -- the definition's run of these bytes, in slices of these lengths
@@ -27,6 +27,7 @@ numbers-of ran = record { number = ran .number; place = ran .place; calls = leng
 pub record Derived (bytes rows cells answers : List ℕ) (r : Ran) (rows′ cells′ answers′ : List ℕ) : Type 0 where
   pub table : List Row
   pub read : table-at (r .rows) (r .cells) rows′ cells′ ≡ some table
+  pub few : r .rows ≤ 50000
   -- every row follows by the rule it names from exactly the rows it cites, all with lower numbers; no judgment has two rows
   pub order : Derivation-order table
   pub distinct : Distinct table
@@ -37,8 +38,10 @@ pub record Derived (bytes rows cells answers : List ℕ) (r : Ran) (rows′ cell
   pub cut-distinct : (n : ℕ) → Distinct (cut n table)
   pub cut-states : (n m : ℕ) (j : Judgment) → m ≤ n → At m j table → At m j (cut n table)
   pub cut-derives : (n m : ℕ) (j : Judgment) → At m j (cut n table) → Derives (cut n table) j
-  -- the table that the first calls leave stays, whatever the others are
+  -- the table that the first calls leave stays, whatever the others are; of its rows' words too: an argument that is a cell is one
+  -- that the first calls left, and these are what they were
   pub grows : (first others : List Call) → walked bytes rows cells answers .calls ≡ first ++ others → Extends (play-all first (start (walked bytes rows cells answers .limit) (length rows) (length cells)) .1 .rows) table
+  pub stays : (first others : List Call) → walked bytes rows cells answers .calls ≡ first ++ others → Stays (play-all first (start (walked bytes rows cells answers .limit) (length rows) (length cells)) .1) rows′ cells′
 
 -- r is what the entry answers; rows′, cells′ and answers′ are the slices after it
 pub record Runs (bytes rows cells answers : List ℕ) (r : Ran) (rows′ cells′ answers′ : List ℕ) : Type 0 where
@@ -46,7 +49,7 @@ pub record Runs (bytes rows cells answers : List ℕ) (r : Ran) (rows′ cells�
   -- one answer for each call, with its four words
   pub answer-count : length (walked bytes rows cells answers .answers) ≡ r .calls
   pub each-answer : (k : ℕ) (a : Answer) → Answer-at a k (walked bytes rows cells answers .answers) → Answer-words (r .cells) cells′ answers′ k a
-  -- the table: as it is read back, and word for word but for the working words
+  -- the table: as it is read back, and each of its words but the working ones, an argument that is a cell by its quote
   pub table : table-at (r .rows) (r .cells) rows′ cells′ ≡ some (walked bytes rows cells answers .last .rows)
   pub each-row : (i : ℕ) (row : Row) → Row-at i row (walked bytes rows cells answers .last .rows) → Row-words (r .cells) rows′ cells′ i row
   -- the cells: each thing that the walk counted has one, and no other is in use

@@ -4,4 +4,5 @@ pub mod Build
 pub mod Call
 pub mod Run
 pub mod Same
+pub mod Reads
 pub mod Rejects

@@ -85,6 +85,7 @@ module _ (bytes rows cells answers : List ℕ) where
   derived-words a d = record {
     table = walked bytes rows cells answers .last .rows;
     read = rw (← a .row-count, ← a .cell-count) (a .table);
+    few = d .few;
     order = d .order;
     distinct = d .distinct;
     stated = λ k c q e. rw (← a .cell-count) (in-words (stated-at (d .stated) q) (a .each-answer k) e);
@@ -93,6 +94,7 @@ module _ (bytes rows cells answers : List ℕ) where
     cut-states = λ n. cut-states n _;
     cut-derives = d .cut-derives;
     grows = d .grows;
+    stays = a .stays;
   }
 
   ended-runs : Asked-words rows cells answers (walked bytes rows cells answers) → Demand-3 (length rows) (length cells) (walked bytes rows cells answers) → Runs bytes rows cells answers (numbers-of (walked bytes rows cells answers)) (ended (walked bytes rows cells answers) rows cells answers .rows) (ended (walked bytes rows cells answers) rows cells answers .cells) (ended (walked bytes rows cells answers) rows cells answers .answers)
