@@ -7,7 +7,7 @@
 
 `expect` reads crates/edges/stdin and asks the oracle (tools/oracle/build.sh makes it) for each case. What is wanted of some cases
 stands in SAID below: where the oracle says otherwise, nothing is written and the command fails. That words past the used ones stay
-is document 01's rule, and the oracle has no words: `stay` is written for all.
+is docs/FORMAT.md's rule, and the oracle has no words: `stay` is written for all.
 
 The last run has 1,586 bytes. With a table of 32,401 rows and a store of 19,723 cells it uses both up to the last, and the call is
 refused with 19, deepest 4,096; a smaller table or store gives 18 or 20. `edges` has no room for it on the stack beside its tables
@@ -103,8 +103,8 @@ CHECK = call(3, 0, [], [ZERO, NAT])
 FIRST = run(100, CHECK)
 
 
-def document_01():
-    say('The lines of document 01, "Calls on each side of an edge", in its order.')
+def at_the_edges():
+    say('The calls of docs/FORMAT.md, "Calls at the edges".')
     case('first', FIRST)
     case('again', run(100, CHECK, CHECK))
     case('variable', run(100, call(2, 0, [NAT], [v(0)])))
@@ -266,6 +266,9 @@ def walks():
     case('limit-3-enough', run(3, CHECK))
     case('beta-limit-7', run(7, call(4, 0, [], [app(lam(NAT, v(0)), ZERO), NAT])))
     case('beta-limit-8', run(8, call(4, 0, [], [app(lam(NAT, v(0)), ZERO), NAT])))
+    say('The limit met with a store that is full by then: 19, since the function past it needs no new cell. One cell less is 20, before.')
+    case('limit-2-full-store', run(2, CHECK), (16368, 24, 16384))
+    case('limit-2-one-cell-less', run(2, CHECK), (16368, 16, 16384))
     say('A call that nests more than 4,096 deep (see `deep` in tools/edges.py), with the limit 1,024.')
     case('limit-1024-met', run(1024, deep(7, 5, 5)), (12652 * 24, 7779 * 8, 4))
     say('The sample that README.md plays.')
@@ -302,7 +305,7 @@ def deep(steps, conversions, height):
     return call(3, 0, context, [ZERO, papp(app(app(v(2), v(1)), foot), I0)])
 
 
-# --- what is wanted: what document 01 says of the case, or what follows from its rules; the last two cases it does not have.
+# --- what is wanted: what docs/FORMAT.md says of the case, or what follows from its rules; the last four cases it does not have.
 # Of a run: number, place, calls, rows, cells, repeats; then of its last call, or of its last two: number, row, result, deepest.
 
 ANY = None
@@ -330,6 +333,8 @@ SAID = {
     'reductions-32': ((0, 0, 1, ANY, ANY, 0), (0, ANY, ANY, ANY)),
     'reductions-33': ((0, 0, 1, ANY, ANY, 0), (15, '-', '-', ANY)),
     'rows-50000': ((0, 0, 479, 50000, ANY, ANY), (0, 1, '-', 2), (18, '-', '-', ANY)),
+    'limit-2-full-store': ((0, 0, 1, 0, 3, 0), (19, '-', '-', 2)),
+    'limit-2-one-cell-less': ((0, 0, 1, 0, 2, 0), (20, '-', '-', 1)),
     'limit-1-met': ((0, 0, 2, 1, ANY, 0), (0, 0, '-', 1)),
     'limit-1024-met': ((0, 0, 1, ANY, ANY, 0), (19, '-', '-', 1024)),
 }
@@ -380,7 +385,7 @@ HEAD = """\
 
 
 def write_cases():
-    for part in (document_01, slices, whole_runs, call_limits, walks):
+    for part in (at_the_edges, slices, whole_runs, call_limits, walks):
         part()
     print(HEAD)
     names = set()

@@ -1,6 +1,6 @@
 // Plays the cases of standard input and prints what each run answers. A case is a line: its name, the words lent of the row table, of
 // the cell store and of the answers, then the run's bytes. tools/edges.py writes the cases and says what each is for; what they must
-// answer, `stdout`, it takes from the oracle, and it sees that this is what document 01 says of the cases that document 01 has.
+// answer, `stdout`, it takes from the oracle, and it sees that this is what docs/FORMAT.md says of the cases that it has.
 //
 // For each case are printed its name; number, place, calls, rows, cells and repeats of the run; whether the words past the used ones
 // stayed, in the row table, the cell store and the answers, also where the run is refused and none is used; and the last eight

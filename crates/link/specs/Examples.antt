@@ -1,4 +1,4 @@
--- The run over words, computed on calls of document 01: answers, counts, and the table read back.
+-- The run over words, computed on calls of docs/FORMAT.md: answers, counts, and the table read back.
 use Prim.Native.Nat.{ℕ}
 use mathlib.Core.Path.{_≡_, refl}
 use mathlib.Core.List.{List, [], _∷_}

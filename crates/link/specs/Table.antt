@@ -149,7 +149,7 @@ no-reading n C a b c d e = none
 abbrev pub concluding : List Reads
 concluding = replicate 2 read-ctx ++ replicate 2 read-dshiftctx ++ replicate 2 read-lookup ++ replicate 2 read-lt ++ replicate 2 read-le ++ replicate 3 read-max ++ replicate 6 read-interval ++ replicate 7 read-ishift ++ replicate 8 read-isubst ++ replicate 11 read-shift ++ replicate 12 read-subst ++ replicate 10 read-dshift ++ replicate 10 read-dsubst ++ replicate 11 read-has ++ replicate 7 read-eq
 
--- rows: 24 words, as document 01 has them
+-- rows: 24 words, as docs/FORMAT.md has them
 
 abbrev pub row-word : ℕ → List ℕ → ℕ → ℕ
 row-word k R i = getD R (i * 24 + k) 0
@@ -165,7 +165,7 @@ unfoldable pub table-at : (rows cells : ℕ) → List ℕ → List ℕ → Optio
 table-at ℕ.zero n R C = some []
 table-at (ℕ.suc i) n R C = row-at n R C i >>= λ r. table-at i n R C >>= λ rs. some (r ∷ rs)
 
--- what stands in a row's words, each as document 01 has it
+-- what stands in a row's words, each as docs/FORMAT.md has it
 
 -- an argument: a number as itself, else a cell in use with the quote
 abbrev pub Stands-for : ℕ → List ℕ → ℕ → Argument → Type 0

@@ -1,5 +1,5 @@
--- Document 01's example, and a run with a repeat, a refused call, a level and a quote: the listing of the walk's run, from bytes, by
--- computation of the definitions, in the listing program's slices.
+-- The example of docs/FORMAT.md, and a run with a repeat, a refused call, a level and a quote: the listing of the walk's run, from
+-- bytes, by computation of the definitions, in the listing program's slices.
 use Prim.Native.Nat.{ℕ}
 use mathlib.Core.Path.{_≡_, refl}
 use mathlib.Core.List.{List, [], _∷_, _++_}

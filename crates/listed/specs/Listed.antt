@@ -1,4 +1,4 @@
--- The listing of a run of the walk, as document 01 says what the listing program prints: over the run's answers and its table, with
+-- The listing of a run of the walk, as docs/FORMAT.md says what the listing program prints: over the run's answers and its table, with
 -- no words. A row's line and a call's line are `row-text` and `call-text` of `text`'s Said. Assumes nothing.
 use Prim.Native.Nat.{ℕ, suc}
 use mathlib.Core.Bool.{true, false}

@@ -1,4 +1,4 @@
--- A table that the walk keeps in order (`Order` of walk's Sound) is a derivation order in document 01's terms, has no judgment
+-- A table that the walk keeps in order (`Order` of walk's Sound) is a derivation order in the terms of docs/FORMAT.md, has no judgment
 -- twice, derives each of its judgments, and stays so when it is cut.
 use Prim.Native.Nat.{ℕ, _<_}
 use mathlib.Core.Path.{_≡_}

@@ -9,6 +9,7 @@ pub mod Sent
 pub mod Never
 pub mod Later
 pub mod Refusals
+pub mod Spot
 pub mod Counts
 pub mod Theorem
 pub mod Call

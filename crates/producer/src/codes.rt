@@ -1,4 +1,4 @@
-// Document 01's numbers: the kinds of judgments, the 95 rules.
+// The numbers of docs/FORMAT.md: the kinds of judgments, the 95 rules.
 
 // Kinds of judgments, as a row's word 19 has them.
 pub const IS_CTX: u32 = 0;

@@ -1,5 +1,5 @@
 -- Wrong outcomes that the contract refuses: what a wrong program would answer or leave, and the clause that it breaks. The runs are
--- document 01's, or of `walk`'s Examples, in slices that are full of sevens.
+-- docs/FORMAT.md's, or of `walk`'s Examples, in slices that are full of sevens.
 use Prim.Native.Nat.{ℕ, suc, _+_, _*_, _<_, _≤_}
 use mathlib.Core.Path.{_≡_, refl, sym, ap, _∙_, subst}
 use mathlib.Core.List.{List, [], _∷_}

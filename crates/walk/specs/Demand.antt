@@ -1,4 +1,5 @@
--- What demand 3 speaks of, in document 01's terms, and the demand itself. The theorem stands in the crate `order`.
+-- What demand 3 speaks of, in the terms of docs/FORMAT.md ("What is promised of the table"), and the demand itself. The theorem stands
+-- in the crate `order`.
 -- A table is a list of rows, the newest first: a row's number is that of the rows below it.
 use Prim.Native.Nat.{ℕ, _*_, _<_, _≤_}
 use mathlib.Core.Path.{_≡_}
@@ -22,7 +23,7 @@ pub data Row-at (n : ℕ) (r : Row) : List Row → Type 0 where
   newest : {rs : List Row} → n ≡ length rs → Row-at n r (r ∷ rs)
   older : {r′ : Row} {rs : List Row} → Row-at n r rs → Row-at n r (r′ ∷ rs)
 
--- Row n of the table states the judgment j: document 01's "a row's *judgment*".
+-- Row n of the table states the judgment j: "a row's *judgment*".
 pub data At (n : ℕ) (j : Judgment) : List Row → Type 0 where
   here : {r : Row} {rs : List Row} → n ≡ length rs → j ≡ r .judgment → At n j (r ∷ rs)
   there : {r : Row} {rs : List Row} → At n j rs → At n j (r ∷ rs)
@@ -33,7 +34,7 @@ pub data Cites (rs : List Row) : List ℕ → List Judgment → Type 0 where
   none-cited : Cites rs [] []
   _also_ : {n : ℕ} {ns : List ℕ} {j : Judgment} {js : List Judgment} → At n j rs → Cites rs ns js → Cites rs (n ∷ ns) (j ∷ js)
 
--- Document 01's "a row *follows* by its rule": its judgment is the conclusion, and what the rows that it cites state are the
+-- "A row *follows* by its rule": its judgment is the conclusion, and what the rows that it cites state are the
 -- premises, for one choice of the rule's parts (`Follows` of Rules).
 pub record Row-follows (rs : List Row) (r : Row) : Type 0 where
   pub premises : List Judgment
@@ -45,7 +46,7 @@ pub data All-below (n : ℕ) : List ℕ → Type 0 where
   no-number : All-below n []
   below : {m : ℕ} {ms : List ℕ} → m < n → All-below n ms → All-below n (m ∷ ms)
 
--- Document 01's "rows are a *derivation order*": each follows by its rule and cites only rows with lower numbers.
+-- "Rows are a *derivation order*": each follows by its rule and cites only rows with lower numbers.
 pub record Derivation-order (rs : List Row) : Type 0 where
   pub follows : (n : ℕ) (r : Row) → Row-at n r rs → Row-follows rs r
   pub lower : (n : ℕ) (r : Row) → Row-at n r rs → All-below n (r .refs)
@@ -54,7 +55,7 @@ pub record Derivation-order (rs : List Row) : Type 0 where
 pub record Distinct (rs : List Row) : Type 0 where
   pub same-row : (m n : ℕ) (j : Judgment) → At m j rs → At n j rs → m ≡ n
 
--- Document 01's "rows *derive* a judgment": a finite tree of rule steps ends in it, and every step's judgment stands among the rows.
+-- "Rows *derive* a judgment": a finite tree of rule steps ends in it, and every step's judgment stands among the rows.
 mutual
   pub data Derives (rs : List Row) : Judgment → Type 0 where
     step : {n rule : ℕ} {js : List Judgment} {j : Judgment} → At n j rs → Follows rule js j → Derives-all rs js → Derives rs j
@@ -63,7 +64,7 @@ mutual
     no-premise : Derives-all rs []
     premise : {j : Judgment} {js : List Judgment} → Derives rs j → Derives-all rs js → Derives-all rs (j ∷ js)
 
--- Document 01's table "*cut after row n*": rows 0 to n.
+-- The table "*cut after row n*": rows 0 to n.
 unfoldable pub cut : ℕ → List Row → List Row
 cut n [] = []
 cut n (r ∷ rs) = elim (ltb n (length rs)) [ true ↦ cut n rs | false ↦ r ∷ rs ]
@@ -94,7 +95,7 @@ of-answer (a-term t) f = some (f t)
 abbrev pub scope : Call → Context
 scope call = scope-of Nil (call .types)
 
--- Document 01's "a call's *judgment*", read from its bytes and its result, by quote (none where the result is not the code's).
+-- "A call's *judgment*", read from its bytes and its result, by quote (none where the result is not the code's).
 unfoldable pub judgment-of : Call → Result → Option Judgment
 judgment-of call result =
     let d = call .dims in

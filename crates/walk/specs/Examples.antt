@@ -1,5 +1,6 @@
--- The P calls of document 01, together, as a single table that is checked by computation; with them the edges that tell wrong
--- definitions apart: one row, cell or entry fewer than enough, terms that differ in annotations only, the places of refusal 3.
+-- The first calls of docs/FORMAT.md, "Calls at the edges", together, as a single table that is checked by computation; with them the
+-- edges that tell wrong definitions apart: one row, cell or entry fewer than enough, terms that differ in annotations only, the places
+-- of refusal 3.
 use Prim.Native.Nat.{ℕ, suc}
 use Prim.Native.String.{String}
 use mathlib.Core.Path.{_≡_, refl}

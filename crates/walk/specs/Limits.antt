@@ -1,4 +1,4 @@
--- The limits of a call, refusals 5 to 7: syntax.rs, `term`, `interval` and `limits`, and `validate` of producer.rs (where document 01 has 33 for 32).
+-- The limits of a call, refusals 5 to 7: syntax.rs, `term`, `interval` and `limits`, and `validate` of producer.rs (where docs/FORMAT.md has 33 for 32).
 use Prim.Native.Nat.{ℕ, _+_}
 use mathlib.Core.List.{List, [], _∷_, _++_}
 use mathlib.Core.Bool.{true, false, _||_}

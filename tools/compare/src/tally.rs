@@ -13,7 +13,7 @@ pub struct Tally {
     /// Given up by the oracle for its work; the program doesn't play these.
     pub slow: u64,
     pub slow_places: Vec<u64>,
-    /// Runs that were read, by document 01's line between those that the Rust
+    /// Runs that were read, by the specification's line between those that the Rust
     /// answers too and those that it can't.
     pub inside: u64,
     pub never_full: u64,

@@ -1,4 +1,4 @@
-//! The cells that document 01 counts: one for each different term, interval,
+//! The cells that docs/FORMAT.md counts: one for each different term, interval,
 //! context and remembered inference, parts before the whole, left part first, a
 //! context's rest before its last type. A cell is known by its kind and the
 //! numbers of its parts, so that a tree is counted in one pass over its nodes.

@@ -1,6 +1,6 @@
 //! The oracle: the Rust source itself, made to play runs.
 //!
-//! `play` plays one run and gives back all that document 01 fixes of it. The
+//! `play` plays one run and gives back all that docs/FORMAT.md fixes of it. The
 //! walk recurses deeply: call it inside `on_large_stack`.
 pub mod batch;
 mod cells;

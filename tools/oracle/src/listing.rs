@@ -1,4 +1,4 @@
-//! The listing, to document 01's letter.
+//! The listing, to the letter of docs/FORMAT.md.
 use crate::run::{Answer, Ran, Row, Value};
 use std::collections::HashSet;
 use std::fmt::{self, Write};

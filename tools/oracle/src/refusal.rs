@@ -1,4 +1,4 @@
-//! Why a call is refused: document 01's number, where the source has a text.
+//! Why a call is refused: the number in docs/FORMAT.md, where the source has a text.
 
 #[derive(Clone, Copy, Debug, PartialEq, Eq)]
 pub struct Refusal(pub u8);

@@ -1,4 +1,4 @@
-//! What document 01 counts beside the source's own state: nesting, rows, cells.
+//! What docs/FORMAT.md counts beside the source's own state: nesting, rows, cells.
 use crate::cells::Cells;
 use crate::refusal::Refusal;
 use crate::sexp::Result;

@@ -1,5 +1,5 @@
 //! Runs whose answers were computed elsewhere (tests/known.txt), and listings as
-//! document 01 has them: the oracle must give the same.
+//! docs/FORMAT.md has them: the oracle must give the same.
 use oracle::{batch, listing, on_large_stack, play, Options, Slices};
 
 fn numbers(line: &str) -> Vec<u32> {

@@ -7,7 +7,7 @@ use crate::run::{Answer, Options, Row, Value};
 use crate::sexp::Result;
 use crate::watch::Watch;
 
-/// Document 01's limit for dimensions and context; the source's own is 32.
+/// The specification's limit for dimensions and context; the source's own is 32.
 const SCOPE: usize = 33;
 
 pub struct Player(Producer);
