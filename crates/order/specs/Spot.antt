@@ -19,27 +19,33 @@ use Rattle.walk.specs.Walk.Transforms.{under-body, tvar-above, tvar, transform-
 use Rattle.walk.specs.Walk.Contexts.{dshiftctx-body, new-ctx, ctx-body, lookup-body}
 use Rattle.walk.specs.Walk.Typing.{lam-parts, expose-body, universe-body, check-body, find, new-infer, infer-body}
 use Rattle.walk.specs.Walk.Equality.{beta, reduce-body, normalize-body, equal-body}
-use Rattle.walk.specs.Walk.{none-left, entered, callees}
+use Rattle.walk.specs.Walk.{none-left, entered, one-more, callees-by, callees}
+use Rattle.walk.specs.Refusal as R
+
+-- with nothing left each is refused
+abbrev refusing : Callees
+refusing = none-left one-more
 
 -- with nothing left: the arguments are counted, and only then each is refused
 unfoldable pub counted-first : Callees
 counted-first = record {
-  ctx = λ d g. count-all (of-context g) >>= λ _. none-left .ctx d g;
-  infer = λ d g t. count-all (of-context g ++ of-term t) >>= λ _. none-left .infer d g t;
-  universe = λ d g t. count-all (of-context g ++ of-term t) >>= λ _. none-left .universe d g t;
-  check = λ d g t ty. count-all (of-context g ++ of-term t ++ of-term ty) >>= λ _. none-left .check d g t ty;
-  expose = λ d g t ty row. count-all (of-context g ++ of-term t ++ of-term ty) >>= λ _. none-left .expose d g t ty row;
-  normalize = λ d g t ty. count-all (of-context g ++ of-term t ++ of-term ty) >>= λ _. none-left .normalize d g t ty;
-  equal = λ d g a b ty. count-all (of-context g ++ of-term a ++ of-term b ++ of-term ty) >>= λ _. none-left .equal d g a b ty;
-  reduce = λ d g t. count-all (of-context g ++ of-term t) >>= λ _. none-left .reduce d g t;
-  lookup = λ g k. count-all (of-context g) >>= λ _. none-left .lookup g k;
-  dshiftctx = λ g. count-all (of-context g) >>= λ _. none-left .dshiftctx g;
-  transform = λ t op. count-all (of-term t ++ of-op op) >>= λ _. none-left .transform t op;
-  itransform = λ r op. count-all (of-interval r ++ of-iop op) >>= λ _. none-left .itransform r op;
-  under = λ op dimension. count-all (of-op op) >>= λ _. none-left .under op dimension;
-  interval = λ d r. count-all (of-interval r) >>= λ _. none-left .interval d r;
-  comparison = λ m k strict. none-left .comparison m k strict;
-  max = λ m k. none-left .max m k;
+  ctx = λ d g. count-all (of-context g) >>= λ _. refusing .ctx d g;
+  infer = λ d g t. count-all (of-context g ++ of-term t) >>= λ _. refusing .infer d g t;
+  universe = λ d g t. count-all (of-context g ++ of-term t) >>= λ _. refusing .universe d g t;
+  check = λ d g t ty. count-all (of-context g ++ of-term t ++ of-term ty) >>= λ _. refusing .check d g t ty;
+  expose = λ d g t ty row. count-all (of-context g ++ of-term t ++ of-term ty) >>= λ _. refusing .expose d g t ty row;
+  normalize = λ d g t ty. count-all (of-context g ++ of-term t ++ of-term ty) >>= λ _. refusing .normalize d g t ty;
+  equal = λ d g a b ty. count-all (of-context g ++ of-term a ++ of-term b ++ of-term ty) >>= λ _. refusing .equal d g a b ty;
+  reduce = λ d g t. count-all (of-context g ++ of-term t) >>= λ _. refusing .reduce d g t;
+  lookup = λ g k. count-all (of-context g) >>= λ _. refusing .lookup g k;
+  dshiftctx = λ g. count-all (of-context g) >>= λ _. refusing .dshiftctx g;
+  transform = λ t op. count-all (of-term t ++ of-op op) >>= λ _. refusing .transform t op;
+  itransform = λ r op. count-all (of-interval r ++ of-iop op) >>= λ _. refusing .itransform r op;
+  under = λ op dimension. count-all (of-op op) >>= λ _. refusing .under op dimension;
+  interval = λ d r. count-all (of-interval r) >>= λ _. refusing .interval d r;
+  comparison = λ m k strict. refusing .comparison m k strict;
+  max = λ m k. refusing .max m k;
+  more = refusing .more;
 }
 
 unfoldable pub late : ℕ → Callees
@@ -102,7 +108,7 @@ count-adds : (x : Thing) (s : State) → After (Adds (x ∷ []) s) (count x s)
 unfolding count with-cell
 count-adds x s = go (among x (s .cells)) refl (decLt (length (s .cells)) (s .cell-room))
   where
-    go : (b : Bool) → among x (s .cells) ≡ b → (d : Dec (suc (length (s .cells)) ≤ s .cell-room)) → After (Adds (x ∷ []) s) (elim b as (λ _. Outcome (Unit {0})) [ true ↦ done tt s | false ↦ elim d as (λ _. Outcome (Unit {0})) [ yes h ↦ done tt (with-cell x s) | no h ↦ refused 20 s ] ])
+    go : (b : Bool) → among x (s .cells) ≡ b → (d : Dec (suc (length (s .cells)) ≤ s .cell-room)) → After (Adds (x ∷ []) s) (elim b as (λ _. Outcome (Unit {0})) [ true ↦ done tt s | false ↦ elim d as (λ _. Outcome (Unit {0})) [ yes h ↦ done tt (with-cell x s) | no h ↦ refused R.cells s ] ])
     go true e d = record { counted = one-counted e none-counted; kept = record { more = λ y h. h } }
     go false e (yes h) = record { counted = one-counted (among-first x (s .cells)) none-counted; kept = among-more x (s .cells) }
     go false e (no h) = tt
@@ -194,27 +200,27 @@ first-third gs xs ys h = plus gs ys (left-of gs xs (left-of (gs ++ xs) ys h)) (r
 
 -- the bodies, each over what its function is lent
 
-expose-alike : (d : ℕ) (g : Context) (t ty : Term) (row : ℕ) → Alike (of-context g ++ of-term t ++ of-term ty) (expose-body none-left d g t ty row) (expose-body counted-first d g t ty row)
+expose-alike : (d : ℕ) (g : Context) (t ty : Term) (row : ℕ) → Alike (of-context g ++ of-term t ++ of-term ty) (expose-body refusing d g t ty row) (expose-body counted-first d g t ty row)
 unfolding expose-body none-left counted-first
 expose-alike d g t ty row = stopped (stops-then _ _ (stops-here _ _ _ λ cells h. first-third (of-context g) (of-term t) (of-term ty) h))
 
-universe-alike : (d : ℕ) (g : Context) (t : Term) → Alike (of-context g ++ of-term t) (universe-body none-left d g t) (universe-body counted-first d g t)
+universe-alike : (d : ℕ) (g : Context) (t : Term) → Alike (of-context g ++ of-term t) (universe-body refusing d g t) (universe-body counted-first d g t)
 unfolding universe-body none-left counted-first
 universe-alike d g t = stopped (stops-then _ _ (stops-here _ _ _ λ cells h. h))
 
-check-alike : (d : ℕ) (g : Context) (t ty : Term) → Alike (of-context g ++ of-term t ++ of-term ty) (check-body none-left d g t ty) (check-body counted-first d g t ty)
+check-alike : (d : ℕ) (g : Context) (t ty : Term) → Alike (of-context g ++ of-term t ++ of-term ty) (check-body refusing d g t ty) (check-body counted-first d g t ty)
 unfolding check-body none-left counted-first
 check-alike d g t ty = stopped (stops-then _ _ (stops-here _ _ _ λ cells h. left-of (of-context g ++ of-term t) (of-term ty) h))
 
-normalize-alike : (d : ℕ) (g : Context) (t ty : Term) → Alike (of-context g ++ of-term t ++ of-term ty) (normalize-body none-left d g t ty) (normalize-body counted-first d g t ty)
+normalize-alike : (d : ℕ) (g : Context) (t ty : Term) → Alike (of-context g ++ of-term t ++ of-term ty) (normalize-body refusing d g t ty) (normalize-body counted-first d g t ty)
 unfolding normalize-body none-left counted-first
 normalize-alike d g t ty = stopped (stops-then _ _ (stops-here _ _ _ λ cells h. h))
 
-equal-alike : (d : ℕ) (g : Context) (a b ty : Term) → Alike (of-context g ++ of-term a ++ of-term b ++ of-term ty) (equal-body none-left d g a b ty) (equal-body counted-first d g a b ty)
+equal-alike : (d : ℕ) (g : Context) (a b ty : Term) → Alike (of-context g ++ of-term a ++ of-term b ++ of-term ty) (equal-body refusing d g a b ty) (equal-body counted-first d g a b ty)
 unfolding equal-body none-left counted-first
 equal-alike d g a b ty = stopped (stops-then _ _ (stops-here _ _ _ λ cells h. first-third (of-context g ++ of-term a) (of-term b) (of-term ty) h))
 
-beta-alike : (d : ℕ) (g : Context) (f r : Term) → Alike (of-context g ++ of-term (App f r)) (reduce-body none-left d g (App f r)) (reduce-body counted-first d g (App f r))
+beta-alike : (d : ℕ) (g : Context) (f r : Term) → Alike (of-context g ++ of-term (App f r)) (reduce-body refusing d g (App f r)) (reduce-body counted-first d g (App f r))
 unfolding reduce-body from_get_or_ beta none-left counted-first
 beta-alike d g (Universe l) r = unchanged _
 beta-alike d g (Var n) r = unchanged _
@@ -227,7 +233,7 @@ beta-alike d g (Path a b e) r = unchanged _
 beta-alike d g (PathLam a b) r = unchanged _
 beta-alike d g (PathApp p q) r = unchanged _
 
-reduce-alike : (d : ℕ) (g : Context) (t : Term) → Alike (of-context g ++ of-term t) (reduce-body none-left d g t) (reduce-body counted-first d g t)
+reduce-alike : (d : ℕ) (g : Context) (t : Term) → Alike (of-context g ++ of-term t) (reduce-body refusing d g t) (reduce-body counted-first d g t)
 unfolding reduce-body none-left counted-first
 reduce-alike d g (Universe l) = unchanged _
 reduce-alike d g (Var n) = unchanged _
@@ -240,7 +246,7 @@ reduce-alike d g (Path a b e) = unchanged _
 reduce-alike d g (PathLam a b) = unchanged _
 reduce-alike d g (PathApp p r) = stopped (stops-then _ _ (stops-here _ _ _ λ cells h. part-of (of-context g) (of-term p) (of-interval r) _ h))
 
-find-stops : (d : ℕ) (g : Context) (t : Term) → Stops (of-context g ++ of-term t) (find none-left d g t) (find counted-first d g t)
+find-stops : (d : ℕ) (g : Context) (t : Term) → Stops (of-context g ++ of-term t) (find refusing d g t) (find counted-first d g t)
 unfolding find none-left counted-first
 find-stops d g (Universe l) = stops-then _ _ (stops-here _ _ _ λ cells h. left-of (of-context g) _ h)
 find-stops d g (Var n) = stops-then _ _ (stops-here _ _ _ λ cells h. left-of (of-context g) _ h)
@@ -253,55 +259,55 @@ find-stops d g (Path a b e) = stops-then _ _ (stops-here _ _ _ λ cells h. left-
 find-stops d g (PathLam a b) = stops-then _ _ (stops-here _ _ _ λ cells h. left-of (of-context g) _ h)
 find-stops d g (PathApp p r) = stops-then _ _ (stops-here _ _ _ λ cells h. part-of (of-context g) (of-term p) (of-interval r) _ h)
 
-infer-alike : (d : ℕ) (g : Context) (t : Term) → Alike (of-context g ++ of-term t) (infer-body none-left d g t) (infer-body counted-first d g t)
+infer-alike : (d : ℕ) (g : Context) (t : Term) → Alike (of-context g ++ of-term t) (infer-body refusing d g t) (infer-body counted-first d g t)
 unfolding infer-body new-infer
 infer-alike d g t = looks λ s. known-or (recall (key d g t) (s .memory)) _ (stopped (stops-then _ _ (find-stops d g t)))
 
-new-ctx-alike : (d : ℕ) (g : Context) → Alike (of-context g) (new-ctx none-left d g) (new-ctx counted-first d g)
+new-ctx-alike : (d : ℕ) (g : Context) → Alike (of-context g) (new-ctx refusing d g) (new-ctx counted-first d g)
 unfolding new-ctx none-left counted-first
 new-ctx-alike d Nil = unchanged _
 new-ctx-alike d (Cons a g) = stopped (stops-then _ _ (stops-here _ _ _ λ cells h. left-of (of-context g) (of-term a) (left-of (of-context g ++ of-term a) _ h)))
 
-ctx-alike : (d : ℕ) (g : Context) → Alike (of-context g) (ctx-body none-left d g) (ctx-body counted-first d g)
+ctx-alike : (d : ℕ) (g : Context) → Alike (of-context g) (ctx-body refusing d g) (ctx-body counted-first d g)
 unfolding ctx-body
 ctx-alike d g = looks λ s. known-or _ _ (new-ctx-alike d g)
 
-dshiftctx-alike : (g : Context) → Alike (of-context g) (dshiftctx-body none-left g) (dshiftctx-body counted-first g)
+dshiftctx-alike : (g : Context) → Alike (of-context g) (dshiftctx-body refusing g) (dshiftctx-body counted-first g)
 unfolding dshiftctx-body none-left counted-first
 dshiftctx-alike Nil = unchanged _
 dshiftctx-alike (Cons a g) = stopped (stops-then _ _ (stops-here _ _ _ λ cells h. left-of (of-context g) (of-term a) (left-of (of-context g ++ of-term a) _ h)))
 
-lookup-alike : (g : Context) (k : ℕ) → Alike (of-context g) (lookup-body none-left g k) (lookup-body counted-first g k)
+lookup-alike : (g : Context) (k : ℕ) → Alike (of-context g) (lookup-body refusing g k) (lookup-body counted-first g k)
 unfolding lookup-body none-left counted-first
 lookup-alike Nil k = unchanged _
 lookup-alike (Cons a g) ℕ.zero = stopped (stops-then _ _ (stops-here _ _ _ λ cells h. plus (of-term a) [] (right-of (of-context g) (of-term a) (left-of (of-context g ++ of-term a) _ h)) none-counted))
 lookup-alike (Cons a g) (ℕ.suc k) = stopped (stops-then _ _ (stops-here _ _ _ λ cells h. left-of (of-context g) (of-term a) (left-of (of-context g ++ of-term a) _ h)))
 
 -- a comparison is lent nothing that takes a cell
-lt-by-same : (m n : ℕ) → lt-by counted-first m n ≡ lt-by none-left m n
+lt-by-same : (m n : ℕ) → lt-by counted-first m n ≡ lt-by refusing m n
 unfolding lt-by counted-first
 lt-by-same m ℕ.zero = refl
 lt-by-same ℕ.zero (ℕ.suc n) = refl
 lt-by-same (ℕ.suc m) (ℕ.suc n) = refl
 
-le-by-same : (m n : ℕ) → le-by counted-first m n ≡ le-by none-left m n
+le-by-same : (m n : ℕ) → le-by counted-first m n ≡ le-by refusing m n
 unfolding le-by counted-first
 le-by-same ℕ.zero n = refl
 le-by-same (ℕ.suc m) ℕ.zero = refl
 le-by-same (ℕ.suc m) (ℕ.suc n) = refl
 
-comparison-alike : (m n : ℕ) (strict : Bool) → Alike [] (comparison-body none-left m n strict) (comparison-body counted-first m n strict)
+comparison-alike : (m n : ℕ) (strict : Bool) → Alike [] (comparison-body refusing m n strict) (comparison-body counted-first m n strict)
 unfolding comparison-body
 comparison-alike m n true = rw (lt-by-same m n) (unchanged _)
 comparison-alike m n false = rw (le-by-same m n) (unchanged _)
 
-max-alike : (m n : ℕ) → Alike [] (max-body none-left m n) (max-body counted-first m n)
+max-alike : (m n : ℕ) → Alike [] (max-body refusing m n) (max-body counted-first m n)
 unfolding max-body counted-first
 max-alike ℕ.zero n = unchanged _
 max-alike (ℕ.suc m) ℕ.zero = unchanged _
 max-alike (ℕ.suc m) (ℕ.suc n) = unchanged _
 
-interval-alike : (d : ℕ) (r : Interval) → Alike (of-interval r) (interval-body none-left d r) (interval-body counted-first d r)
+interval-alike : (d : ℕ) (r : Interval) → Alike (of-interval r) (interval-body refusing d r) (interval-body counted-first d r)
 unfolding interval-body none-left counted-first
 interval-alike d I0 = unchanged _
 interval-alike d I1 = unchanged _
@@ -310,13 +316,13 @@ interval-alike d (Neg r) = stopped (stops-then _ _ (stops-here _ _ _ λ cells h.
 interval-alike d (Meet r q) = stopped (stops-then _ _ (stops-here _ _ _ λ cells h. left-of (of-interval r) (of-interval q) (left-of (of-interval r ++ of-interval q) _ h)))
 interval-alike d (Join r q) = stopped (stops-then _ _ (stops-here _ _ _ λ cells h. left-of (of-interval r) (of-interval q) (left-of (of-interval r ++ of-interval q) _ h)))
 
-idim-same : (n : ℕ) (op : IOp) → idim counted-first n op ≡ idim none-left n op
+idim-same : (n : ℕ) (op : IOp) → idim counted-first n op ≡ idim refusing n op
 unfolding idim idim-above counted-first
 idim-same n (IShift k) = refl
 idim-same ℕ.zero (ISubst k q) = refl
 idim-same (ℕ.suc n) (ISubst k q) = refl
 
-itransform-alike : (r : Interval) (op : IOp) → Alike (of-interval r ++ of-iop op) (itransform-body none-left r op) (itransform-body counted-first r op)
+itransform-alike : (r : Interval) (op : IOp) → Alike (of-interval r ++ of-iop op) (itransform-body refusing r op) (itransform-body counted-first r op)
 unfolding itransform-body none-left counted-first
 itransform-alike I0 op = unchanged _
 itransform-alike I1 op = unchanged _
@@ -325,7 +331,7 @@ itransform-alike (Neg r) op = stopped (stops-then _ _ (stops-here _ _ _ λ cells
 itransform-alike (Meet r q) op = stopped (stops-then _ _ (stops-here _ _ _ λ cells h. operand-of (of-interval r) (of-interval q) _ (of-iop op) h))
 itransform-alike (Join r q) op = stopped (stops-then _ _ (stops-here _ _ _ λ cells h. operand-of (of-interval r) (of-interval q) _ (of-iop op) h))
 
-under-alike : (op : Op) (dimension : Bool) → Alike (of-op op) (under-body none-left op dimension) (under-body counted-first op dimension)
+under-alike : (op : Op) (dimension : Bool) → Alike (of-op op) (under-body refusing op dimension) (under-body counted-first op dimension)
 unfolding under-body none-left counted-first
 under-alike (Shift k) false = unchanged _
 under-alike (Shift k) true = unchanged _
@@ -336,7 +342,7 @@ under-alike (DShift k) true = unchanged _
 under-alike (DSubst k r) false = unchanged _
 under-alike (DSubst k r) true = stopped (stops-then _ _ (stops-here _ _ _ λ cells h. plus (of-interval r) [] h none-counted))
 
-tvar-same : (n : ℕ) (op : Op) → tvar counted-first n op ≡ tvar none-left n op
+tvar-same : (n : ℕ) (op : Op) → tvar counted-first n op ≡ tvar refusing n op
 unfolding tvar tvar-above counted-first
 tvar-same n (Shift k) = refl
 tvar-same ℕ.zero (Subst k r) = refl
@@ -344,7 +350,7 @@ tvar-same (ℕ.suc n) (Subst k r) = refl
 tvar-same n (DShift k) = refl
 tvar-same n (DSubst k r) = refl
 
-transform-alike : (t : Term) (op : Op) → Alike (of-term t ++ of-op op) (transform-body none-left t op) (transform-body counted-first t op)
+transform-alike : (t : Term) (op : Op) → Alike (of-term t ++ of-op op) (transform-body refusing t op) (transform-body counted-first t op)
 unfolding transform-body none-left counted-first
 transform-alike (Universe l) op = unchanged _
 transform-alike (Var n) op = rw (tvar-same n op) (unchanged _)
@@ -358,8 +364,8 @@ transform-alike (PathLam a b) op = stopped (stops-then _ _ (stops-here _ _ _ λ 
 transform-alike (PathApp p r) op = stopped (stops-then _ _ (stops-here _ _ _ λ cells h. operand-of (of-term p) (of-interval r) _ (of-op op) h))
 
 -- with one entry left
-late-one : entered 0 counted-first ≡ entered 0 none-left
-unfolding entered
+late-one : entered 0 counted-first ≡ entered 0 refusing
+unfolding entered counted-first none-left
 late-one = λ i. record {
   ctx = λ d g s. enters 0 _ (ctx-alike d g) s i;
   infer = λ d g t s. enters 0 _ (infer-alike d g t) s i;
@@ -377,11 +383,12 @@ late-one = λ i. record {
   interval = λ d r s. enters 0 _ (interval-alike d r) s i;
   comparison = λ m k strict s. enters 0 _ (comparison-alike m k strict) s i;
   max = λ m k s. enters 0 _ (max-alike m k) s i;
+  more = one-more;
 }
 
 -- under every limit that a run can have
 pub spot : (limit : ℕ) → 1 ≤ limit → late limit ≡ callees limit
-unfolding late callees
+unfolding late callees callees-by
 spot ℕ.zero l = absurd (omega (arith, l))
 spot (ℕ.suc ℕ.zero) l = late-one
 spot (ℕ.suc (ℕ.suc n)) l = ap (entered (suc n)) (spot (suc n) (omega arith))
