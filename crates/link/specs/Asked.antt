@@ -7,6 +7,7 @@ use Rattle.producer.specs.Callees.{Callees}
 use Rattle.producer.specs.Calls.{callees}
 use Rattle.walk.specs.Syntax.{Interval, I0, I1, Dim, Neg, Meet, Join, Term, Universe, Var, Nat, Zero, Pi, Lam, App, Path, PathLam, PathApp, Context, Nil, Cons}
 use Rattle.walk.specs.Reader.{Code, c-context, c-universe, c-infer, c-check, c-normalise, c-equal, Call}
+use Rattle.walk.specs.Refusal as Refusal
 use Rattle.walk.specs.Limits.{Sized, fits, scope-over, size-over, index-over, size-call}
 use Rattle.walk.specs.Run.{scope-of, nth}
 
@@ -83,9 +84,9 @@ unfoldable pub afresh : Machine → Machine
 afresh w = machine (w .rows) (w .cells) (fresh (w .state))
 
 unfoldable pub ask-sized : Sized → Call → Machine → Said × Machine
-ask-sized scope-over call w = (turned 5, w)
-ask-sized size-over call w = (turned 6, w)
-ask-sized index-over call w = (turned 7, w)
+ask-sized scope-over call w = (turned Refusal.scope, w)
+ask-sized size-over call w = (turned Refusal.size, w)
+ask-sized index-over call w = (turned Refusal.index, w)
 ask-sized (fits n) call w = ask (callees (w .state .limit)) (call .code) (call .dims) (scope-of Nil (call .types)) (call .terms) (afresh w)
 
 -- each call gets what the one before left

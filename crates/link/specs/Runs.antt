@@ -85,9 +85,9 @@ unfolding play play-sized ask-sized with-deepest
 asked-sized {o} {w} {s} call f h = go (size-call call) refl
   where
     go : (z : Sized) → size-call call ≡ z → Leaves o (s .cells) (ask-sized z call w) (play-sized z call s)
-    go scope-over e = turned-leaves 5 f h
-    go size-over e = turned-leaves 6 f h
-    go index-over e = turned-leaves 7 f h
+    go scope-over e = turned-leaves _ f h
+    go size-over e = turned-leaves _ f h
+    go index-over e = turned-leaves _ f h
     go (fits n) e =
         let k = let-in call n e in
         let d = k .dims in
