@@ -1,5 +1,5 @@
 -- The machine over words, and its steps: what a method of `State` is proved equal to. A term is the number of its cell.
--- A row: 24 words as document 01 has them; its first working word is free, the second is the judgment's kind, the last four are the
+-- A row: 24 words as docs/FORMAT.md has them; its first working word is free, the second is the judgment's kind, the last four are the
 -- index's. Assumes nothing.
 use Prim.Native.Nat.{ℕ, _+_, _*_, _-_, _%_, _/_}
 use mathlib.Core.Bool.{Bool, true, false}

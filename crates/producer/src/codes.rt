@@ -1,4 +1,4 @@
-// Document 01's numbers: the refusals from 8 on, the kinds of judgments, the 95 rules.
+// The numbers of docs/FORMAT.md: the refusals from 8 on, the kinds of judgments, the 95 rules.
 
 // Refusals.
 // A variable has no type in the context.

@@ -1,4 +1,4 @@
--- The numbers of the 95 rules, in document 01's order, and their names: `eq·p1` is its eq.p1.
+-- The numbers of the 95 rules, in the order of docs/FORMAT.md, and their names: `eq·p1` is its eq.p1.
 use Prim.Native.Nat.{ℕ, suc}
 use Prim.Native.String.{String}
 use mathlib.Core.Path.{_≡_, refl}

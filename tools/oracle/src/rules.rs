@@ -1,4 +1,4 @@
-//! The names of the rules, in document 01's order: a name's place is its number.
+//! The names of the rules, in the order of docs/FORMAT.md: a name's place is its number.
 
 pub const NAMES: [&str; 95] = [
     "ctx.nil",
