@@ -7,17 +7,17 @@ use mathlib.Core.Path.{_≡_, refl, sym, ap, _∙_}
 use mathlib.Core.List.{List, [], _∷_, _++_}
 use mathlib.Core.Option.{Option, none, some}
 use mathlib.Core.Bool.{Bool, true, false}
-use native.Mathlib.Decide.{ℕ-discrete, decLt, decLe}
+use native.Mathlib.Decide.{decLt}
 use native.Mathlib.Omega.{arith}
 use lib.ListN.{length}
 use Rattle.walk.specs.Syntax.{Interval, I0, I1, Dim, Neg, Meet, Join, Term, Universe, Var, Nat, Zero, Pi, Lam, App, Path, PathLam, PathApp, Context, Nil, Cons}
-use Rattle.walk.specs.State.{Thing, thing?, State, Outcome, done, refused, M, go-on, looking, _>>=_, pure, refuse, if_then_else_, from_get_or_, row-of, recall, key, of-interval, of-term, of-context, among, with-cell, count, count-all, note, enter}
+use Rattle.walk.specs.State.{Thing, thing?, State, Outcome, done, refused, M, go-on, looking, _>>=_, pure, refuse, from_get_or_, recall, key, of-interval, of-term, of-context, among, with-cell, count, count-all, note, enter}
 use Rattle.walk.specs.Walk.Reference.{Op, Shift, Subst, DShift, DSubst, IOp, IShift, ISubst, Callees, of-op, of-iop}
 use Rattle.walk.specs.Walk.Numbers.{lt-by, le-by, comparison-body, max-body}
 use Rattle.walk.specs.Walk.Intervals.{idim-above, idim, itransform-body, interval-body}
 use Rattle.walk.specs.Walk.Transforms.{under-body, tvar-above, tvar, transform-body}
 use Rattle.walk.specs.Walk.Contexts.{dshiftctx-body, new-ctx, ctx-body, lookup-body}
-use Rattle.walk.specs.Walk.Typing.{lam-parts, expose-body, universe-body, check-body, find, new-infer, infer-body}
+use Rattle.walk.specs.Walk.Typing.{expose-body, universe-body, check-body, find, new-infer, infer-body}
 use Rattle.walk.specs.Walk.Equality.{beta, reduce-body, normalize-body, equal-body}
 use Rattle.walk.specs.Walk.{none-left, entered, one-more, callees-by, callees}
 use Rattle.walk.specs.Refusal as R
@@ -159,11 +159,6 @@ stopped h = record { alike = λ s k. h .alike s k ∙ sym (h .stops s) }
 
 unchanged : {A : Type 0} {xs : List Thing} (m : M A) → Alike xs m m
 unchanged m = record { alike = λ s h. refl }
-
-branches : {P A : Type 0} {xs : List Thing} {x y x′ y′ : M A} (d : Dec P) → Alike xs x x′ → Alike xs y y′ → Alike xs (if d then x else y) (if d then x′ else y′)
-unfolding if_then_else_
-branches (yes p) h k = h
-branches (no p) h k = k
 
 known-or : {A B : Type 0} {xs : List Thing} (o : Option A) (f : A → M B) {z z′ : M B} → Alike xs z z′ → Alike xs (from o get f or z) (from o get f or z′)
 unfolding from_get_or_
