@@ -3,8 +3,8 @@
 # (default: rt).
 set -e
 cd "$(dirname "$0")/.."
+python3 tools/written.py
 python3 tools/opened.py
-python3 tools/tables.py > crates/link/specs/Tables.antt
 python3 tools/opened_words.py > crates/link/specs/Opened.antt
 for crate in ast producer run; do
     python3 tools/prove.py "$crate"

@@ -1,31 +1,32 @@
-// Document 01's numbers: the refusals from 8 on, the kinds of judgments, the 95 rules.
+// Document 01's numbers: the refusals from 8 on, the kinds of judgments, the rules.
+// Written by tools/written.py from tools/language.py; `python3 tools/written.py` makes it again.
 
 // Refusals.
 // A variable has no type in the context.
 pub const UNBOUND: u32 = 8;
-// The function of an application has no pi type.
+// The function of an application has no pi type after `expose`.
 pub const NO_FUNCTION: u32 = 9;
-// The path of a papp has no path type.
+// The path of a papp has no path type after `expose`.
 pub const NO_PATH: u32 = 10;
-// A term wanted as a type has no universe.
+// A term wanted as a type has no universe after `expose`.
 pub const NO_TYPE: u32 = 11;
-// Conversion finds two universe levels.
+// A conversion finds two universe levels.
 pub const LEVELS: u32 = 12;
 // Two normalised sides have different quotes.
 pub const QUOTES: u32 = 13;
-// A reduction has another type than the one wanted.
+// `normalize` meets a reduction whose type is not quoted as the one wanted.
 pub const STEP_TYPE: u32 = 14;
-// A 33rd root reduction exists.
+// There is a 33rd root reduction.
 pub const REDUCTIONS: u32 = 15;
 // A 33rd conversion would be nested.
 pub const CONVERSIONS: u32 = 16;
 // A dimension is not below the dimension count.
 pub const DIMENSION: u32 = 17;
-// A new row is needed and none is left.
+// A new row is needed, and 50,000, or all that the table holds, are used.
 pub const ROWS: u32 = 18;
 // A function would be entered past the nesting limit.
 pub const NESTING: u32 = 19;
-// A new cell is needed and none is left.
+// A new cell is needed, and none is left.
 pub const CELLS: u32 = 20;
 
 // Kinds of judgments, as a row's word 19 has them.

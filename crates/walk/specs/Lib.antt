@@ -1,9 +1,10 @@
 -- The definition of the run, and the proof that its table is a derivation order.
--- What readers must believe: Syntax, Judgment, Rule, Rules, State, Walk, Reader, Limits, Run, Demand.
+-- What readers must believe: Syntax, Judgment, Rule, Rules, Refusal, State, Walk, Reader, Limits, Run, Demand.
 pub mod Syntax
 pub mod Judgment
 pub mod Rule
 pub mod Rules
+pub mod Refusal
 pub mod State
 pub mod Walk
 pub mod Reader
@@ -12,5 +13,6 @@ pub mod Run
 pub mod Demand
 pub mod Sound
 pub mod Calls
+pub mod Concludes
 pub mod Opened
 pub mod Examples
