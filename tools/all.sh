@@ -5,8 +5,8 @@
 # RT is the command to check with (default: rt).
 set -e
 cd "$(dirname "$0")/.."
+python3 tools/written.py
 python3 tools/opened.py
-python3 tools/tables.py > crates/link/specs/Tables.antt
 [ "$1" = tables ] || for crate in ast producer run; do
     python3 tools/prove.py "$crate"
 done

@@ -2,7 +2,7 @@
 use Prim.Native.Nat.{ℕ, _/_, min}
 use mathlib.Core.List.{List, [], _∷_, _++_}
 use lib.ListN.{length, drop}
-use Rattle.producer.specs.Machine.{Machine, machine, new-state, fresh, Result, is, not, W, _>>=_, intern, make-universe, make-var, make-nat, make-pi, make-lam, make-app, make-path, make-plam, make-papp, make-i0, make-i1, make-dim, make-neg, make-meet, make-join, make-nil, make-cons}
+use Rattle.producer.specs.Machine.{Machine, machine, new-state, fresh, Result, is, not, W, _>>=_, intern, make-universe, make-var, make-nat, make-zero, make-pi, make-lam, make-app, make-path, make-plam, make-papp, make-i0, make-i1, make-dim, make-neg, make-meet, make-join, make-nil, make-cons}
 use Rattle.producer.specs.Callees.{Callees}
 use Rattle.producer.specs.Calls.{callees}
 use Rattle.walk.specs.Syntax.{Interval, I0, I1, Dim, Neg, Meet, Join, Term, Universe, Var, Nat, Zero, Pi, Lam, App, Path, PathLam, PathApp, Context, Nil, Cons}
@@ -13,24 +13,30 @@ use Rattle.walk.specs.Run.{scope-of, nth}
 
 -- the cells of what is sent, parts first
 unfoldable pub build-interval : Interval → W ℕ
+-- written by tools/written.py: cells of an interval
 build-interval I0 = make-i0
 build-interval I1 = make-i1
 build-interval (Dim n) = make-dim n
-build-interval (Neg r) = build-interval r >>= λ a. make-neg a
-build-interval (Meet r q) = build-interval r >>= λ a. build-interval q >>= λ b. make-meet a b
-build-interval (Join r q) = build-interval r >>= λ a. build-interval q >>= λ b. make-join a b
+build-interval (Neg a) = build-interval a >>= λ x. make-neg x
+build-interval (Meet a b) = build-interval a >>= λ x. build-interval b >>= λ y. make-meet x y
+build-interval (Join a b) = build-interval a >>= λ x. build-interval b >>= λ y. make-join x y
+
+-- end of cells of an interval
 
 unfoldable pub build-term : Term → W ℕ
-build-term (Universe l) = make-universe l
+-- written by tools/written.py: cells of a term
+build-term (Universe n) = make-universe n
 build-term (Var n) = make-var n
 build-term Nat = make-nat
-build-term Zero = intern 4 0 0 0
+build-term Zero = make-zero
 build-term (Pi a b) = build-term a >>= λ x. build-term b >>= λ y. make-pi x y
 build-term (Lam a b) = build-term a >>= λ x. build-term b >>= λ y. make-lam x y
 build-term (App a b) = build-term a >>= λ x. build-term b >>= λ y. make-app x y
 build-term (Path a b c) = build-term a >>= λ x. build-term b >>= λ y. build-term c >>= λ z. make-path x y z
 build-term (PathLam a b) = build-term a >>= λ x. build-term b >>= λ y. make-plam x y
-build-term (PathApp a r) = build-term a >>= λ x. build-interval r >>= λ y. make-papp x y
+build-term (PathApp a b) = build-term a >>= λ x. build-interval b >>= λ y. make-papp x y
+
+-- end of cells of a term
 
 unfoldable pub build-context : Context → W ℕ
 build-context Nil = make-nil

@@ -12,7 +12,10 @@ use lib.Dec.{ltb, T, lt→ltb, lit<}
 use Rattle.producer.specs.declared.rows.Refs.{Refs}
 use Rattle.producer.specs.Machine.{Machine}
 use Rattle.walk.specs.Syntax.{Interval, Term, Context, Quote, Quotes, quote, quotes}
-use Rattle.walk.specs.Judgment.{Judgment, number, arguments}
+use Rattle.walk.specs.Judgment.{Judgment, kind, number, arguments}
+use Rattle.walk.specs.Rules.{Follows}
+use Rattle.walk.specs.Rule.{kind-of}
+use Rattle.walk.specs.Concludes.{concludes, few-premises}
 use Rattle.walk.specs.Reader.{kinds, ikinds}
 use Rattle.walk.specs.State.{State, Row, Thing, term, interval, context, inference, key}
 use Rattle.walk.specs.Demand.{Row-at, newest, older, Cites, none-cited, _also_, Row-follows, Derivation-order}
@@ -22,8 +25,14 @@ use Rattle.link.specs.Tables.{Shape, s-plain, s-universe, s-var, s-nat, 
 use Rattle.link.specs.Store.{refs-of, Block, plain, remembered, Line, line, Cells}
 use Rattle.link.specs.Store.{row-words as row-of}
 use Rattle.link.specs.Holds.{Before, Holds, part-of}
-use Rattle.link.specs.Concludes.{reads, concludes, few-premises}
-use Rattle.link.specs.Table.{_>>=_, lower, interval-by, quote-by, ckinds, context-by, interval-at, quote-at, context-at, below, an-interval, a-quote, a-context, read-ctx, read-dshiftctx, read-lookup, read-lt, read-le, read-max, read-interval, read-ishift, read-isubst, read-shift, read-subst, read-dshift, read-dsubst, read-has, read-eq, cited-at, row-at, table-at, Stands-for, Row-words, term-by, scope-by, term-at, scope-at, Memory-cell, Holds-thing, Among, this-thing, other-thing, Cell-of, Thing-of}
+use Rattle.link.specs.Table.{_>>=_, lower, interval-by, quote-by, ckinds, context-by, interval-at, quote-at, context-at, below, an-interval, a-quote, a-context, Reads, no-reading, readings, concluding, read-ctx, read-dshiftctx, read-lookup, read-lt, read-le, read-max, read-interval, read-ishift, read-isubst, read-shift, read-subst, read-dshift, read-dsubst, read-has, read-eq, cited-at, row-at, table-at, Stands-for, Row-words, term-by, scope-by, term-at, scope-at, Memory-cell, Holds-thing, Among, this-thing, other-thing, Cell-of, Thing-of}
+
+-- how a judgment is read: as what its rule concludes
+abbrev reads : Judgment → Reads
+reads j = getD readings (kind j) no-reading
+
+read-as : {rule : ℕ} {js : List Judgment} {j : Judgment} → Follows rule js j → concluding rule ≡ reads j
+read-as f = ap (λ (k : ℕ). getD readings k no-reading) (sym (concludes f))
 
 -- the lowest cell that shows something
 record Lowest (n : ℕ) (s : Shown) (xs : List Thing) : Type 0 where
@@ -76,12 +85,14 @@ module _ {xs : List Thing} {ws : List ℕ} (rest : List ℕ) (cs : Cells xs ws) 
   interval-back (ℕ.suc f) n r l h = let i = inner {x = interval r} tt h in rw (i .word-0, i .word-1, i .word-2) (go (λ m _ k h. lowered (interval-at f (ws ++ rest)) k (interval-back f m _ (omega arith) h)) (part-at i) (i .shape))
     where
       go : {ys : List Thing} {k a b c : ℕ} {r : Interval} → ((m : ℕ) (q : Interval) → m < n → Nth m (interval q) xs → lower n (interval-at f (ws ++ rest)) m ≡ some q) → ((m : ℕ) (y : Thing) → Cell m y ys → (m < n) × Nth m y xs) → Shape ys k a b c (interval r) → (getD ikinds k none >>= λ k. interval-by (lower n (interval-at f (ws ++ rest))) k a b) ≡ some r
+      -- written by tools/written.py: intervals
       go ih at s-i0 = refl
       go ih at s-i1 = refl
       go ih at s-dim = refl
       go ih at (s-neg x) = let p = at _ _ x in rw (ih _ _ (omega arith) (p .1))
       go ih at (s-meet x y) = let p = at _ _ x in let q = at _ _ y in rw (ih _ _ (omega arith) (p .1), ih _ _ (omega arith) (q .1))
       go ih at (s-join x y) = let p = at _ _ x in let q = at _ _ y in rw (ih _ _ (omega arith) (p .1), ih _ _ (omega arith) (q .1))
+      -- end of intervals
 
   quote-back : (f n : ℕ) (t : Term) → n < f → Nth n (term t) xs → quote-at f (ws ++ rest) n ≡ some (quote t)
   unfolding quote-at quote-by _>>=_
@@ -89,6 +100,7 @@ module _ {xs : List Thing} {ws : List ℕ} (rest : List ℕ) (cs : Cells xs ws) 
   quote-back (ℕ.suc f) n t l h = let i = inner {x = term t} tt h in rw (i .word-0, i .word-1, i .word-2, i .word-3) (go (λ m _ k h. lowered (quote-at f (ws ++ rest)) k (quote-back f m _ (omega arith) h)) (part-at i) (i .shape))
     where
       go : {ys : List Thing} {k a b c : ℕ} {t : Term} → ((m : ℕ) (s : Term) → m < n → Nth m (term s) xs → lower n (quote-at f (ws ++ rest)) m ≡ some (quote s)) → ((m : ℕ) (y : Thing) → Cell m y ys → (m < n) × Nth m y xs) → Shape ys k a b c (term t) → (getD kinds k none >>= λ k. quote-by (lower n (quote-at f (ws ++ rest))) (lower n (interval-at f (ws ++ rest))) k a b c) ≡ some (quote t)
+      -- written by tools/written.py: quotes
       go ih at s-universe = refl
       go ih at s-var = refl
       go ih at s-nat = refl
@@ -99,6 +111,7 @@ module _ {xs : List Thing} {ws : List ℕ} (rest : List ℕ) (cs : Cells xs ws) 
       go ih at (s-path x y z) = let p = at _ _ x in let q = at _ _ y in let r = at _ _ z in rw (ih _ _ (omega arith) (p .1), ih _ _ (omega arith) (q .1), ih _ _ (omega arith) (r .1))
       go ih at (s-plam x y) = let q = at _ _ y in rw (ih _ _ (omega arith) (q .1))
       go ih at (s-papp x y) = let p = at _ _ x in let q = at _ _ y in rw (ih _ _ (omega arith) (p .1), lowered (interval-at f (ws ++ rest)) (q .0) (interval-back f _ _ (omega arith) (q .1)))
+      -- end of quotes
 
   context-back : (f n : ℕ) (g : Context) → n < f → Nth n (context g) xs → context-at f (ws ++ rest) n ≡ some (quotes g)
   unfolding context-at context-by _>>=_
@@ -117,6 +130,7 @@ module _ {xs : List Thing} {ws : List ℕ} (rest : List ℕ) (cs : Cells xs ws) 
   term-back (ℕ.suc f) n t l h = let i = inner {x = term t} tt h in rw (i .word-0, i .word-1, i .word-2, i .word-3) (go (λ m _ k h. lowered (term-at f (ws ++ rest)) k (term-back f m _ (omega arith) h)) (part-at i) (i .shape))
     where
       go : {ys : List Thing} {k a b c : ℕ} {t : Term} → ((m : ℕ) (s : Term) → m < n → Nth m (term s) xs → lower n (term-at f (ws ++ rest)) m ≡ some s) → ((m : ℕ) (y : Thing) → Cell m y ys → (m < n) × Nth m y xs) → Shape ys k a b c (term t) → (getD kinds k none >>= λ k. term-by (lower n (term-at f (ws ++ rest))) (lower n (interval-at f (ws ++ rest))) k a b c) ≡ some t
+      -- written by tools/written.py: terms
       go ih at s-universe = refl
       go ih at s-var = refl
       go ih at s-nat = refl
@@ -127,6 +141,7 @@ module _ {xs : List Thing} {ws : List ℕ} (rest : List ℕ) (cs : Cells xs ws) 
       go ih at (s-path x y z) = let p = at _ _ x in let q = at _ _ y in let r = at _ _ z in rw (ih _ _ (omega arith) (p .1), ih _ _ (omega arith) (q .1), ih _ _ (omega arith) (r .1))
       go ih at (s-plam x y) = let p = at _ _ x in let q = at _ _ y in rw (ih _ _ (omega arith) (p .1), ih _ _ (omega arith) (q .1))
       go ih at (s-papp x y) = let p = at _ _ x in let q = at _ _ y in rw (ih _ _ (omega arith) (p .1), lowered (interval-at f (ws ++ rest)) (q .0) (interval-back f _ _ (omega arith) (q .1)))
+      -- end of terms
 
   scope-back : (f n : ℕ) (g : Context) → n < f → Nth n (context g) xs → scope-at f (ws ++ rest) n ≡ some g
   unfolding scope-at scope-by _>>=_
@@ -195,23 +210,25 @@ module _ {xs : List Thing} {ws : List ℕ} (rest : List ℕ) (cs : Cells xs ws) 
       go (inference k) h e = let z : _≡_ {A = ℕ} 0 1 = cc in absurd (omega arith)
 
   -- a judgment
-  judgment-read : {kind count a b c d e : ℕ} {j : Judgment} → Spoken xs kind count a b c d e j → reads j (length xs) (ws ++ rest) a b c d e ≡ some j
+  judgment-read : {k count a b c d e : ℕ} {j : Judgment} → Spoken xs k count a b c d e j → reads j (length xs) (ws ++ rest) a b c d e ≡ some j
   unfolding read-ctx read-dshiftctx read-lookup read-lt read-le read-max read-interval read-ishift read-isubst read-shift read-subst read-dshift read-dsubst read-has read-eq _>>=_
-  judgment-read (j-ctx g) = rw (context-read g)
-  judgment-read (j-dshiftctx g h) = rw (context-read g, context-read h)
-  judgment-read (j-lookup g t) = rw (context-read g, quote-read t)
+  -- written by tools/written.py: judgments
+  judgment-read (j-ctx h0) = rw (context-read h0)
+  judgment-read (j-dshiftctx h0 h1) = rw (context-read h0, context-read h1)
+  judgment-read (j-lookup h0 h1) = rw (context-read h0, quote-read h1)
   judgment-read j-lt = refl
   judgment-read j-le = refl
   judgment-read j-max = refl
-  judgment-read (j-interval r) = rw (interval-read r)
-  judgment-read (j-ishift r q) = rw (interval-read r, interval-read q)
-  judgment-read (j-isubst r p q) = rw (interval-read r, interval-read p, interval-read q)
-  judgment-read (j-shift t s) = rw (quote-read t, quote-read s)
-  judgment-read (j-subst t r s) = rw (quote-read t, quote-read r, quote-read s)
-  judgment-read (j-dshift t s) = rw (quote-read t, quote-read s)
-  judgment-read (j-dsubst t r s) = rw (quote-read t, interval-read r, quote-read s)
-  judgment-read (j-has g t a) = rw (context-read g, quote-read t, quote-read a)
-  judgment-read (j-eq g a b t) = rw (context-read g, quote-read a, quote-read b, quote-read t)
+  judgment-read (j-interval h0) = rw (interval-read h0)
+  judgment-read (j-ishift h0 h1) = rw (interval-read h0, interval-read h1)
+  judgment-read (j-isubst h0 h1 h2) = rw (interval-read h0, interval-read h1, interval-read h2)
+  judgment-read (j-shift h0 h1) = rw (quote-read h0, quote-read h1)
+  judgment-read (j-subst h0 h1 h2) = rw (quote-read h0, quote-read h1, quote-read h2)
+  judgment-read (j-dshift h0 h1) = rw (quote-read h0, quote-read h1)
+  judgment-read (j-dsubst h0 h1 h2) = rw (quote-read h0, interval-read h1, quote-read h2)
+  judgment-read (j-has h0 h1 h2) = rw (context-read h0, quote-read h1, quote-read h2)
+  judgment-read (j-eq h0 h1 h2 h3) = rw (context-read h0, quote-read h1, quote-read h2, quote-read h3)
+  -- end of judgments
 
 -- the rows cited
 
@@ -245,7 +262,7 @@ row-nth (older h) = there (row-nth h)
 row-back : {xs : List Thing} {ws : List ℕ} (rest : List ℕ) → Cells xs ws → (R : List ℕ) (i : ℕ) (rs lower : List Row) (r : Row) (bs : List ℕ) → Row-follows rs r → Line xs lower r bs → ((k : ℕ) → k < 24 → getD R (i * 24 + k) 0 ≡ getD bs k 0) → row-at (length xs) R (ws ++ rest) i ≡ some r
 unfolding row-at cited-at _>>=_
 row-back rest cs R i rs lower r bs follows (line s) f =
-    rw (f 0 (lit< tt), f 13 (lit< tt), f 14 (lit< tt), f 15 (lit< tt), f 16 (lit< tt), f 17 (lit< tt), concludes (follows .follows), judgment-read rest cs s)
+    rw (f 0 (lit< tt), f 13 (lit< tt), f 14 (lit< tt), f 15 (lit< tt), f 16 (lit< tt), f 17 (lit< tt), read-as (follows .follows), judgment-read rest cs s)
     (rw (f 1 (lit< tt), f 2 (lit< tt), f 3 (lit< tt), f 4 (lit< tt), f 5 (lit< tt), f 6 (lit< tt), f 7 (lit< tt), f 8 (lit< tt), f 9 (lit< tt), f 10 (lit< tt))
     (rw (f 11 (lit< tt), ten (r .refs) (let e = cites-length (follows .cited) in let l = few-premises (follows .follows) in omega arith))))
 
@@ -342,21 +359,24 @@ record Told (n : ℕ) (C : List ℕ) (count a b c d e : ℕ) (j : Judgment) : Ty
 
 module _ {xs : List Thing} {ws : List ℕ} (rest : List ℕ) (cs : Cells xs ws) where
   told : {kind count a b c d e : ℕ} {j : Judgment} → Spoken xs kind count a b c d e j → Told (length xs) (ws ++ rest) count a b c d e j
-  told (j-ctx g) = record { count-is = refl; first = refl; second = context-read rest cs g; third = refl; fourth = refl; fifth = refl }
-  told (j-dshiftctx g h) = record { count-is = refl; first = context-read rest cs g; second = refl; third = context-read rest cs h; fourth = refl; fifth = refl }
-  told (j-lookup g t) = record { count-is = refl; first = context-read rest cs g; second = refl; third = quote-read rest cs t; fourth = refl; fifth = refl }
+  -- written by tools/written.py: arguments
+  told (j-ctx h0) = record { count-is = refl; first = refl; second = context-read rest cs h0; third = refl; fourth = refl; fifth = refl }
+  told (j-dshiftctx h0 h1) = record { count-is = refl; first = context-read rest cs h0; second = refl; third = context-read rest cs h1; fourth = refl; fifth = refl }
+  told (j-lookup h0 h1) = record { count-is = refl; first = context-read rest cs h0; second = refl; third = quote-read rest cs h1; fourth = refl; fifth = refl }
   told j-lt = record { count-is = refl; first = refl; second = refl; third = refl; fourth = refl; fifth = refl }
   told j-le = record { count-is = refl; first = refl; second = refl; third = refl; fourth = refl; fifth = refl }
   told j-max = record { count-is = refl; first = refl; second = refl; third = refl; fourth = refl; fifth = refl }
-  told (j-interval r) = record { count-is = refl; first = refl; second = interval-read rest cs r; third = refl; fourth = refl; fifth = refl }
-  told (j-ishift r q) = record { count-is = refl; first = interval-read rest cs r; second = refl; third = interval-read rest cs q; fourth = refl; fifth = refl }
-  told (j-isubst r p q) = record { count-is = refl; first = interval-read rest cs r; second = refl; third = interval-read rest cs p; fourth = interval-read rest cs q; fifth = refl }
-  told (j-shift t s) = record { count-is = refl; first = quote-read rest cs t; second = refl; third = quote-read rest cs s; fourth = refl; fifth = refl }
-  told (j-subst t r s) = record { count-is = refl; first = quote-read rest cs t; second = refl; third = quote-read rest cs r; fourth = quote-read rest cs s; fifth = refl }
-  told (j-dshift t s) = record { count-is = refl; first = quote-read rest cs t; second = refl; third = quote-read rest cs s; fourth = refl; fifth = refl }
-  told (j-dsubst t r s) = record { count-is = refl; first = quote-read rest cs t; second = refl; third = interval-read rest cs r; fourth = quote-read rest cs s; fifth = refl }
-  told (j-has g t a) = record { count-is = refl; first = refl; second = context-read rest cs g; third = quote-read rest cs t; fourth = quote-read rest cs a; fifth = refl }
-  told (j-eq g a b t) = record { count-is = refl; first = refl; second = context-read rest cs g; third = quote-read rest cs a; fourth = quote-read rest cs b; fifth = quote-read rest cs t }
+  told (j-interval h0) = record { count-is = refl; first = refl; second = interval-read rest cs h0; third = refl; fourth = refl; fifth = refl }
+  told (j-ishift h0 h1) = record { count-is = refl; first = interval-read rest cs h0; second = refl; third = interval-read rest cs h1; fourth = refl; fifth = refl }
+  told (j-isubst h0 h1 h2) = record { count-is = refl; first = interval-read rest cs h0; second = refl; third = interval-read rest cs h1; fourth = interval-read rest cs h2; fifth = refl }
+  told (j-shift h0 h1) = record { count-is = refl; first = quote-read rest cs h0; second = refl; third = quote-read rest cs h1; fourth = refl; fifth = refl }
+  told (j-subst h0 h1 h2) = record { count-is = refl; first = quote-read rest cs h0; second = refl; third = quote-read rest cs h1; fourth = quote-read rest cs h2; fifth = refl }
+  told (j-dshift h0 h1) = record { count-is = refl; first = quote-read rest cs h0; second = refl; third = quote-read rest cs h1; fourth = refl; fifth = refl }
+  told (j-dsubst h0 h1 h2) = record { count-is = refl; first = quote-read rest cs h0; second = refl; third = interval-read rest cs h1; fourth = quote-read rest cs h2; fifth = refl }
+  told (j-has h0 h1 h2) = record { count-is = refl; first = refl; second = context-read rest cs h0; third = quote-read rest cs h1; fourth = quote-read rest cs h2; fifth = refl }
+  told (j-eq h0 h1 h2 h3) = record { count-is = refl; first = refl; second = context-read rest cs h0; third = quote-read rest cs h1; fourth = quote-read rest cs h2; fifth = quote-read rest cs h3 }
+
+  -- end of arguments
 
   row-told : (R : List ℕ) (i : ℕ) (lower : List Row) (r : Row) (bs : List ℕ) → Line xs lower r bs → ((k : ℕ) → k < 24 → getD R (i * 24 + k) 0 ≡ getD bs k 0) → Row-words (length xs) R (ws ++ rest) i r
   row-told R i lower r bs (line s) f = let t = told s in record {

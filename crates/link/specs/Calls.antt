@@ -16,16 +16,20 @@ use Rattle.link.specs.Asked.{build-interval, build-term, build-context, 
 module _ {o : Before} where
   pub building-interval : {xs : List Thing} (r : Interval) → Matches o xs (build-interval r) (count-all (of-interval r)) (λ n _. Cell n (interval r))
   unfolding build-interval
+  -- written by tools/written.py: counting an interval
   building-interval I0 = counting nothing s-i0
   building-interval I1 = counting nothing s-i1
   building-interval (Dim n) = counting nothing s-dim
-  building-interval (Neg r) = split-last _ _ (bind (building-interval r) λ _ _ _ _ h. counting nothing (s-neg h))
-  building-interval (Meet r q) = split-last _ _ (split _ _ _ (bind (building-interval r) λ _ _ _ _ h. bind (building-interval q) λ _ _ _ e k. counting nothing (s-meet (cell-lift e h) k)))
-  building-interval (Join r q) = split-last _ _ (split _ _ _ (bind (building-interval r) λ _ _ _ _ h. bind (building-interval q) λ _ _ _ e k. counting nothing (s-join (cell-lift e h) k)))
+  building-interval (Neg a) = split-last _ _ (bind (building-interval a) λ _ _ _ _ h. counting nothing (s-neg h))
+  building-interval (Meet a b) = split-last _ _ (split _ _ _ (bind (building-interval a) λ _ _ _ _ h. bind (building-interval b) λ _ _ _ e k. counting nothing (s-meet (cell-lift e h) k)))
+  building-interval (Join a b) = split-last _ _ (split _ _ _ (bind (building-interval a) λ _ _ _ _ h. bind (building-interval b) λ _ _ _ e k. counting nothing (s-join (cell-lift e h) k)))
+
+  -- end of counting an interval
 
   pub building-term : {xs : List Thing} (t : Term) → Matches o xs (build-term t) (count-all (of-term t)) (λ n _. Cell n (term t))
   unfolding build-term
-  building-term (Universe l) = counting nothing s-universe
+  -- written by tools/written.py: counting a term
+  building-term (Universe n) = counting nothing s-universe
   building-term (Var n) = counting nothing s-var
   building-term Nat = counting nothing s-nat
   building-term Zero = counting nothing s-zero
@@ -34,7 +38,9 @@ module _ {o : Before} where
   building-term (App a b) = split-last _ _ (split _ _ _ (bind (building-term a) λ _ _ _ _ h. bind (building-term b) λ _ _ _ e k. counting nothing (s-app (cell-lift e h) k)))
   building-term (Path a b c) = split-last _ _ (split _ _ _ (split _ _ _ (bind (building-term a) λ _ _ _ _ h. bind (building-term b) λ _ _ _ e k. bind (building-term c) λ _ _ _ f l. counting nothing (s-path (cell-lift (extends-trans e f) h) (cell-lift f k) l))))
   building-term (PathLam a b) = split-last _ _ (split _ _ _ (bind (building-term a) λ _ _ _ _ h. bind (building-term b) λ _ _ _ e k. counting nothing (s-plam (cell-lift e h) k)))
-  building-term (PathApp a r) = split-last _ _ (split _ _ _ (bind (building-term a) λ _ _ _ _ h. bind (building-interval r) λ _ _ _ e k. counting nothing (s-papp (cell-lift e h) k)))
+  building-term (PathApp a b) = split-last _ _ (split _ _ _ (bind (building-term a) λ _ _ _ _ h. bind (building-interval b) λ _ _ _ e k. counting nothing (s-papp (cell-lift e h) k)))
+
+  -- end of counting a term
 
   pub building-context : {xs : List Thing} (g : Context) → Matches o xs (build-context g) (count-all (of-context g)) (λ n _. Cell n (context g))
   unfolding build-context

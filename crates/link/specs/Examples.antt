@@ -39,7 +39,7 @@ unfolding opened
 zero-answers = refl
 
 zero-table : table (asked (check Zero Nat ∷ [])) ≡ some (record { rule = R.type·zero; refs = 0 ∷ []; judgment = has 0 nil zero nat } ∷ record { rule = R.ctx·nil; refs = []; judgment = ctx 0 nil } ∷ [])
-unfolding opened
+unfolding opened R.kind-of
 zero-table = refl
 
 -- infer v 0 in context nat: row 5 of 6, deepest 5

@@ -27,7 +27,6 @@ pub mod Ends
 pub mod Runs
 -- the table, read back
 pub mod Table
-pub mod Concludes
 pub mod Back
 pub mod Words
 pub mod Opened

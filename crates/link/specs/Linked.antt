@@ -13,10 +13,10 @@ use Rattle.producer.specs.declared.intervals.IOp.{IOp}
 use Rattle.producer.specs.declared.intervals.IOp.the-variants.{IShift, ISubst}
 use Rattle.producer.specs.declared.transforms.Op.{Op}
 use Rattle.producer.specs.declared.transforms.Op.the-variants.{Shift, Subst, DShift, DSubst}
-use Rattle.producer.specs.Machine.{Machine, W, Reduction, make-universe, make-var, make-nat, make-pi, make-lam, make-app, make-path, make-plam, make-papp, make-i0, make-i1, make-dim, make-neg, make-meet, make-join, make-cons}
+use Rattle.producer.specs.Machine.{Machine, W, Reduction, make-universe, make-var, make-nat, make-zero, make-pi, make-lam, make-app, make-path, make-plam, make-papp, make-i0, make-i1, make-dim, make-neg, make-meet, make-join, make-nil, make-cons}
 use Rattle.producer.specs.Machine as C
 use Rattle.producer.specs.Callees.{Callees}
-use Rattle.walk.specs.Syntax.{Interval, I0, I1, Dim, Neg, Meet, Join, Term, Universe, Var, Nat, Pi, Lam, App, Path, PathLam, PathApp, Context, Cons}
+use Rattle.walk.specs.Syntax.{Interval, I0, I1, Dim, Neg, Meet, Join, Term, Universe, Var, Nat, Zero, Pi, Lam, App, Path, PathLam, PathApp, Context, Cons}
 use Rattle.walk.specs.State.{State, Thing, term, interval, context, of-interval, of-term, of-context, M, count-all}
 use Rattle.walk.specs.State as S
 use Rattle.walk.specs.Walk.Reference as D
@@ -25,7 +25,7 @@ use Rattle.order.specs.Numbers.{largest}
 use Rattle.order.specs.Guarded.{beyond, bump}
 use Rattle.link.specs.Lists.{Extends}
 use Rattle.link.specs.Things.{Cell, cell-lift}
-use Rattle.link.specs.Tables.{s-universe, s-var, s-nat, s-pi, s-lam, s-app, s-path, s-plam, s-papp, s-i0, s-i1, s-dim, s-neg, s-meet, s-join, s-cons}
+use Rattle.link.specs.Tables.{s-universe, s-var, s-nat, s-zero, s-pi, s-lam, s-app, s-path, s-plam, s-papp, s-i0, s-i1, s-dim, s-neg, s-meet, s-join, s-nil, s-cons}
 use Rattle.link.specs.Holds.{Before, Holds}
 use Rattle.link.specs.Match.{Agree, by-guard, Matches, bind, nothing, the-interval, the-term, the-context, _with_, counting, Same, Pairs, Returns, Absorbs, Few}
 
@@ -138,18 +138,7 @@ larger-is (ℕ.suc m) (ℕ.suc n) = rw (larger-is m n, leb·suc-suc (suc m) n) (
 
 -- what is made is counted
 module _ {o : Before} {xs : List Thing} where
-  pub making-dim : (n : ℕ) → Matches o xs (make-dim n) (count-all (of-interval (Dim n))) (λ i _. Cell i (interval (Dim n)))
-  making-dim n = counting nothing s-dim
-
-  pub making-neg : {a : ℕ} {r : Interval} → Cell a (interval r) xs → Matches o xs (make-neg a) (count-all (of-interval (Neg r))) (λ i _. Cell i (interval (Neg r)))
-  making-neg h = counting (the-interval h) (s-neg h)
-
-  pub making-meet : {a b : ℕ} {r q : Interval} → Cell a (interval r) xs → Cell b (interval q) xs → Matches o xs (make-meet a b) (count-all (of-interval (Meet r q))) (λ i _. Cell i (interval (Meet r q)))
-  making-meet h k = counting (the-interval h with the-interval k) (s-meet h k)
-
-  pub making-join : {a b : ℕ} {r q : Interval} → Cell a (interval r) xs → Cell b (interval q) xs → Matches o xs (make-join a b) (count-all (of-interval (Join r q))) (λ i _. Cell i (interval (Join r q)))
-  making-join h k = counting (the-interval h with the-interval k) (s-join h k)
-
+  -- written by tools/written.py: making
   pub making-universe : (n : ℕ) → Matches o xs (make-universe n) (count-all (of-term (Universe n))) (λ i _. Cell i (term (Universe n)))
   making-universe n = counting nothing s-universe
 
@@ -158,6 +147,9 @@ module _ {o : Before} {xs : List Thing} where
 
   pub making-nat : Matches o xs make-nat (count-all (of-term Nat)) (λ i _. Cell i (term Nat))
   making-nat = counting nothing s-nat
+
+  pub making-zero : Matches o xs make-zero (count-all (of-term Zero)) (λ i _. Cell i (term Zero))
+  making-zero = counting nothing s-zero
 
   pub making-pi : {a b : ℕ} {a′ b′ : Term} → Cell a (term a′) xs → Cell b (term b′) xs → Matches o xs (make-pi a b) (count-all (of-term (Pi a′ b′))) (λ i _. Cell i (term (Pi a′ b′)))
   making-pi h k = counting (the-term h with the-term k) (s-pi h k)
@@ -182,6 +174,20 @@ module _ {o : Before} {xs : List Thing} where
 
   pub making-i1 : Matches o xs make-i1 (count-all (of-interval I1)) (λ i _. Cell i (interval I1))
   making-i1 = counting nothing s-i1
+
+  pub making-dim : (n : ℕ) → Matches o xs (make-dim n) (count-all (of-interval (Dim n))) (λ i _. Cell i (interval (Dim n)))
+  making-dim n = counting nothing s-dim
+
+  pub making-neg : {a : ℕ} {a′ : Interval} → Cell a (interval a′) xs → Matches o xs (make-neg a) (count-all (of-interval (Neg a′))) (λ i _. Cell i (interval (Neg a′)))
+  making-neg h = counting (the-interval h) (s-neg h)
+
+  pub making-meet : {a b : ℕ} {a′ b′ : Interval} → Cell a (interval a′) xs → Cell b (interval b′) xs → Matches o xs (make-meet a b) (count-all (of-interval (Meet a′ b′))) (λ i _. Cell i (interval (Meet a′ b′)))
+  making-meet h k = counting (the-interval h with the-interval k) (s-meet h k)
+
+  pub making-join : {a b : ℕ} {a′ b′ : Interval} → Cell a (interval a′) xs → Cell b (interval b′) xs → Matches o xs (make-join a b) (count-all (of-interval (Join a′ b′))) (λ i _. Cell i (interval (Join a′ b′)))
+  making-join h k = counting (the-interval h with the-interval k) (s-join h k)
+
+  -- end of making
 
   pub making-cons : {a b : ℕ} {a′ : Term} {b′ : Context} → Cell a (term a′) xs → Cell b (context b′) xs → Matches o xs (make-cons a b) (count-all (of-context (Cons a′ b′))) (λ i _. Cell i (context (Cons a′ b′)))
   making-cons h k = counting (the-context k with the-term h) (s-cons h k)

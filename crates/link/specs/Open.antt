@@ -27,6 +27,7 @@ pub record Node (i q : ℕ) (x : Thing) (xs : List Thing) : Type 0 where
   pub low : Low q (show x) xs
 
 module _ {A B : Type 0} {o : Before} {xs : List Thing} {Q : B → A → List Thing → Type 0} (f : Words → W B) where
+  -- written by tools/written.py: opening an interval
   pub opening-interval : {i : ℕ} {r : Interval} (g : Interval → M A) → Cell i (interval r) xs
       → ((q : ℕ) → Node i q (interval I0) xs → Matches o xs (f (cell-by 16 0 0 0 q)) (g I0) Q)
       → ((q : ℕ) → Node i q (interval I1) xs → Matches o xs (f (cell-by 17 0 0 0 q)) (g I1) Q)
@@ -45,8 +46,11 @@ module _ {A B : Type 0} {o : Before} {xs : List Thing} {Q : B → A → List Thi
       go q (s-meet x y) n = on-meet q _ _ _ _ n x y
       go q (s-join x y) n = on-join q _ _ _ _ n x y
 
+  -- end of opening an interval
+
+  -- written by tools/written.py: opening a term
   pub opening-term : {i : ℕ} {t : Term} (g : Term → M A) → Cell i (term t) xs
-      → ((q l : ℕ) → Node i q (term (Universe l)) xs → Matches o xs (f (cell-by 1 l 0 0 q)) (g (Universe l)) Q)
+      → ((q n : ℕ) → Node i q (term (Universe n)) xs → Matches o xs (f (cell-by 1 n 0 0 q)) (g (Universe n)) Q)
       → ((q n : ℕ) → Node i q (term (Var n)) xs → Matches o xs (f (cell-by 2 n 0 0 q)) (g (Var n)) Q)
       → ((q : ℕ) → Node i q (term Nat) xs → Matches o xs (f (cell-by 3 0 0 0 q)) (g Nat) Q)
       → ((q : ℕ) → Node i q (term Zero) xs → Matches o xs (f (cell-by 4 0 0 0 q)) (g Zero) Q)
@@ -70,6 +74,8 @@ module _ {A B : Type 0} {o : Before} {xs : List Thing} {Q : B → A → List Thi
       go q (s-path x y z) n = on-path q _ _ _ _ _ _ n x y z
       go q (s-plam x y) n = on-plam q _ _ _ _ n x y
       go q (s-papp x y) n = on-papp q _ _ _ _ n x y
+
+  -- end of opening a term
 
   pub opening-context : {i : ℕ} {h : Context} (g : Context → M A) → Cell i (context h) xs
       → ((q : ℕ) → Node i q (context Nil) xs → Matches o xs (f (cell-by 32 0 0 0 q)) (g Nil) Q)

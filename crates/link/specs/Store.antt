@@ -10,7 +10,7 @@ use lib.ListN.{length, getD, set, length-append}
 use lib.Seq.{sets}
 use lib.Dec.{eqb, T, eqb→eq, eqb-refl, lit<}
 use Rattle.ast.specs.Words.{ifb, all-eq}
-use Rattle.ast.specs.Cells.{or-else, on-found, last-of, cell-of, quote-of, pairs, look-1, look-2, look-3, same-node, same-look}
+use Rattle.ast.specs.Cells.{or-else, on-found, last-of, cell-of, quote-of, hides-first, shows-first, shows-second, shows-third, look-1, look-2, look-3, same-node, same-look}
 use Rattle.ast.specs.Nodes.{look-hash}
 use Rattle.ast.specs.declared.cells.Cell.{Cell as Words}
 use Rattle.ast.specs.declared.cells.Found.{Found}
@@ -221,7 +221,8 @@ module _ {xs : List Thing} {ws : List ℕ} (rest : List ℕ) (cs : Cells xs ws) 
   low-of p c = let r = opens rest p (cell-nth c) cs in rw (quote-is r) (r .lowest)
 
   pub looks : {k a b c : ℕ} {y : Thing} → Shape xs k a b c y → Look xs k (look-1 (ws ++ rest) k a) (look-2 (ws ++ rest) k b) (look-3 (ws ++ rest) k c) (show y)
-  unfolding look-1 look-2 look-3 pairs
+  unfolding look-1 look-2 look-3 hides-first shows-first shows-second shows-third
+  -- written by tools/written.py: how a cell shows
   looks s-universe = l-universe
   looks s-var = l-var
   looks s-nat = l-nat
@@ -240,6 +241,7 @@ module _ {xs : List Thing} {ws : List ℕ} (rest : List ℕ) (cs : Cells xs ws) 
   looks (s-join h i) = l-join (low-of tt h) (low-of tt i)
   looks s-nil = l-nil
   looks (s-cons h i) = l-cons (low-of tt h) (low-of tt i)
+  -- end of how a cell shows
 
 pub look-test : {k a b c n : ℕ} {s : Shown} {y : Thing} {xs : List Thing} {ws : List ℕ} (rest : List ℕ) → Look xs k a b c s → Cells xs ws → Nth n y xs → same-look (ws ++ rest) k a b c n ≡ shows s y
 unfolding shows same-look
@@ -251,15 +253,15 @@ look-test {k} {a} {b} {c} {n} {s} {y} {xs} {ws} rest l cs h = let r = read rest 
 
 -- a remembered inference shows its key
 look-40 : (C : List ℕ) (d : ℕ) → look-1 C 40 d ≡ d
-unfolding look-1 look-2 pairs
+unfolding look-1 hides-first shows-first
 look-40 C d = refl
 
 look-41 : (C : List ℕ) (g : ℕ) → look-2 C 40 g ≡ g
-unfolding look-2 pairs
+unfolding look-2 shows-second
 look-41 C g = refl
 
 look-42 : (C : List ℕ) (t : ℕ) → look-3 C 40 t ≡ t
-unfolding look-3
+unfolding look-3 shows-third
 look-42 C t = refl
 
 -- a cell's hash stays as the store grows
@@ -366,15 +368,19 @@ module _ {xs : List Thing} {ws : List ℕ} (cs : Cells xs ws) where
   one h = known h none-left
 
   pub interval-known : (r : Interval) → Held (interval r) xs → Known xs (of-interval r)
+  -- written by tools/written.py: parts of an interval
   interval-known I0 h = one h
   interval-known I1 h = one h
   interval-known (Dim n) h = one h
-  interval-known (Neg r) h = let p = parts-known tt h in known-append (interval-known r (known-head p)) (one h)
-  interval-known (Meet r q) h = let p = parts-known tt h in known-append (known-append (interval-known r (known-head p)) (interval-known q (known-head (known-tail p)))) (one h)
-  interval-known (Join r q) h = let p = parts-known tt h in known-append (known-append (interval-known r (known-head p)) (interval-known q (known-head (known-tail p)))) (one h)
+  interval-known (Neg a) h = let p = parts-known tt h in known-append (interval-known a (known-head p)) (one h)
+  interval-known (Meet a b) h = let p = parts-known tt h in known-append (known-append (interval-known a (known-head p)) (interval-known b (known-head (known-tail p)))) (one h)
+  interval-known (Join a b) h = let p = parts-known tt h in known-append (known-append (interval-known a (known-head p)) (interval-known b (known-head (known-tail p)))) (one h)
+
+  -- end of parts of an interval
 
   pub term-known : (t : Term) → Held (term t) xs → Known xs (of-term t)
-  term-known (Universe l) h = one h
+  -- written by tools/written.py: parts of a term
+  term-known (Universe n) h = one h
   term-known (Var n) h = one h
   term-known Nat h = one h
   term-known Zero h = one h
@@ -383,7 +389,9 @@ module _ {xs : List Thing} {ws : List ℕ} (cs : Cells xs ws) where
   term-known (App a b) h = let p = parts-known tt h in known-append (known-append (term-known a (known-head p)) (term-known b (known-head (known-tail p)))) (one h)
   term-known (Path a b c) h = let p = parts-known tt h in known-append (known-append (known-append (term-known a (known-head p)) (term-known b (known-head (known-tail p)))) (term-known c (known-head (known-tail (known-tail p))))) (one h)
   term-known (PathLam a b) h = let p = parts-known tt h in known-append (known-append (term-known a (known-head p)) (term-known b (known-head (known-tail p)))) (one h)
-  term-known (PathApp a r) h = let p = parts-known tt h in known-append (known-append (term-known a (known-head p)) (interval-known r (known-head (known-tail p)))) (one h)
+  term-known (PathApp a b) h = let p = parts-known tt h in known-append (known-append (term-known a (known-head p)) (interval-known b (known-head (known-tail p)))) (one h)
+
+  -- end of parts of a term
 
   pub context-known : (g : Context) → Held (context g) xs → Known xs (of-context g)
   context-known Nil h = one h

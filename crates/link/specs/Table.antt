@@ -9,6 +9,7 @@ use lib.ListN.{length, getD, take, replicate}
 use lib.Dec.{ltb}
 use Rattle.walk.specs.Syntax.{Interval, I0, I1, Dim, Neg, Meet, Join, Term, Universe, Var, Nat, Zero, Pi, Lam, App, Path, PathLam, PathApp, Context, Nil, Cons, Quote, u, v, nat, zero, pi, lam, app, path, plam, papp, Quotes, nil, cons, quote}
 use Rattle.walk.specs.Judgment.{Judgment, Argument, number, of-interval, of-quote, of-context, arguments, ctx, dshiftctx, lookup, lt, le, max, interval, ishift, isubst, shift, subst, dshift, dsubst, has, eq}
+use Rattle.walk.specs.Rule.{kind-of}
 use Rattle.walk.specs.Reader.{Kind, k-u, k-v, k-nat, k-zero, k-pi, k-lam, k-app, k-path, k-plam, k-papp, IKind, k-0, k-1, k-dim, k-neg, k-meet, k-join, kinds, ikinds, Call}
 use Rattle.walk.specs.State.{State, Row, Thing, term, inference, key}
 use Rattle.walk.specs.State as S
@@ -30,15 +31,19 @@ part i C n = getD C (n * 8 + i) 0
 
 -- Kinds as in a run's bytes: a cell of a kind, over what its parts are.
 unfoldable pub interval-by : (ℕ → Option Interval) → IKind → (a b : ℕ) → Option Interval
+-- written by tools/written.py: an interval
 interval-by at k-0 a b = some I0
 interval-by at k-1 a b = some I1
 interval-by at k-dim a b = some (Dim a)
-interval-by at k-neg a b = at a >>= λ r. some (Neg r)
-interval-by at k-meet a b = at a >>= λ r. at b >>= λ q. some (Meet r q)
-interval-by at k-join a b = at a >>= λ r. at b >>= λ q. some (Join r q)
+interval-by at k-neg a b = at a >>= λ x. some (Neg x)
+interval-by at k-meet a b = at a >>= λ x. at b >>= λ y. some (Meet x y)
+interval-by at k-join a b = at a >>= λ x. at b >>= λ y. some (Join x y)
+
+-- end of an interval
 
 -- A lam's and a plam's annotation, their first part, is not quoted.
 unfoldable pub quote-by : (ℕ → Option Quote) → (ℕ → Option Interval) → Kind → (a b c : ℕ) → Option Quote
+-- written by tools/written.py: a quote
 quote-by at iat k-u a b c = some (u a)
 quote-by at iat k-v a b c = some (v a)
 quote-by at iat k-nat a b c = some nat
@@ -48,7 +53,9 @@ quote-by at iat k-lam a b c = at b >>= λ y. some (lam y)
 quote-by at iat k-app a b c = at a >>= λ x. at b >>= λ y. some (app x y)
 quote-by at iat k-path a b c = at a >>= λ x. at b >>= λ y. at c >>= λ z. some (path x y z)
 quote-by at iat k-plam a b c = at b >>= λ y. some (plam y)
-quote-by at iat k-papp a b c = at a >>= λ x. iat b >>= λ r. some (papp x r)
+quote-by at iat k-papp a b c = at a >>= λ x. iat b >>= λ y. some (papp x y)
+
+-- end of a quote
 
 -- A context is 32, or 33 with its last type and its rest.
 pub data CKind : Type 0 where
@@ -97,57 +104,63 @@ a-context = below context-at
 abbrev pub Reads : Type 0
 Reads = ℕ → List ℕ → (a b c d e : ℕ) → Option Judgment
 
+-- each kind at its number; and what a rule concludes is of the kind that the table of rules has
+-- written by tools/written.py: readings
 unfoldable pub read-ctx : Reads
-read-ctx n C d g _ _ _ = a-context n C g >>= λ g. some (ctx d g)
+read-ctx used C d g _ _ _ = a-context used C g >>= λ g. some (ctx d g)
 
 unfoldable pub read-dshiftctx : Reads
-read-dshiftctx n C g k h _ _ = a-context n C g >>= λ g. a-context n C h >>= λ h. some (dshiftctx g k h)
+read-dshiftctx used C g k h _ _ = a-context used C g >>= λ g. a-context used C h >>= λ h. some (dshiftctx g k h)
 
 unfoldable pub read-lookup : Reads
-read-lookup n C g k t _ _ = a-context n C g >>= λ g. a-quote n C t >>= λ t. some (lookup g k t)
+read-lookup used C g n A _ _ = a-context used C g >>= λ g. a-quote used C A >>= λ A. some (lookup g n A)
 
 unfoldable pub read-lt : Reads
-read-lt n C i j _ _ _ = some (lt i j)
+read-lt used C m n _ _ _ = some (lt m n)
 
 unfoldable pub read-le : Reads
-read-le n C i j _ _ _ = some (le i j)
+read-le used C m n _ _ _ = some (le m n)
 
 unfoldable pub read-max : Reads
-read-max n C i j k _ _ = some (max i j k)
+read-max used C m n k _ _ = some (max m n k)
 
 unfoldable pub read-interval : Reads
-read-interval n C d r _ _ _ = an-interval n C r >>= λ r. some (interval d r)
+read-interval used C d r _ _ _ = an-interval used C r >>= λ r. some (interval d r)
 
 unfoldable pub read-ishift : Reads
-read-ishift n C r k s _ _ = an-interval n C r >>= λ r. an-interval n C s >>= λ s. some (ishift r k s)
+read-ishift used C r k r′ _ _ = an-interval used C r >>= λ r. an-interval used C r′ >>= λ r′. some (ishift r k r′)
 
 unfoldable pub read-isubst : Reads
-read-isubst n C r k q s _ = an-interval n C r >>= λ r. an-interval n C q >>= λ q. an-interval n C s >>= λ s. some (isubst r k q s)
+read-isubst used C r k s r′ _ = an-interval used C r >>= λ r. an-interval used C s >>= λ s. an-interval used C r′ >>= λ r′. some (isubst r k s r′)
 
 unfoldable pub read-shift : Reads
-read-shift n C t k s _ _ = a-quote n C t >>= λ t. a-quote n C s >>= λ s. some (shift t k s)
+read-shift used C t k t′ _ _ = a-quote used C t >>= λ t. a-quote used C t′ >>= λ t′. some (shift t k t′)
 
 unfoldable pub read-subst : Reads
-read-subst n C t k r s _ = a-quote n C t >>= λ t. a-quote n C r >>= λ r. a-quote n C s >>= λ s. some (subst t k r s)
+read-subst used C t k s t′ _ = a-quote used C t >>= λ t. a-quote used C s >>= λ s. a-quote used C t′ >>= λ t′. some (subst t k s t′)
 
 unfoldable pub read-dshift : Reads
-read-dshift n C t k s _ _ = a-quote n C t >>= λ t. a-quote n C s >>= λ s. some (dshift t k s)
+read-dshift used C t k t′ _ _ = a-quote used C t >>= λ t. a-quote used C t′ >>= λ t′. some (dshift t k t′)
 
 unfoldable pub read-dsubst : Reads
-read-dsubst n C t k r s _ = a-quote n C t >>= λ t. an-interval n C r >>= λ r. a-quote n C s >>= λ s. some (dsubst t k r s)
+read-dsubst used C t k r t′ _ = a-quote used C t >>= λ t. an-interval used C r >>= λ r. a-quote used C t′ >>= λ t′. some (dsubst t k r t′)
 
 unfoldable pub read-has : Reads
-read-has n C d g t a _ = a-context n C g >>= λ g. a-quote n C t >>= λ t. a-quote n C a >>= λ a. some (has d g t a)
+read-has used C d g t A _ = a-context used C g >>= λ g. a-quote used C t >>= λ t. a-quote used C A >>= λ A. some (has d g t A)
 
 unfoldable pub read-eq : Reads
-read-eq n C d g a b t = a-context n C g >>= λ g. a-quote n C a >>= λ a. a-quote n C b >>= λ b. a-quote n C t >>= λ t. some (eq d g a b t)
+read-eq used C d g a b A = a-context used C g >>= λ g. a-quote used C a >>= λ a. a-quote used C b >>= λ b. a-quote used C A >>= λ A. some (eq d g a b A)
 
 unfoldable pub no-reading : Reads
-no-reading n C a b c d e = none
+no-reading used C a b c d e = none
 
--- the kind that each rule concludes, in the order of the rules
-abbrev pub concluding : List Reads
-concluding = replicate 2 read-ctx ++ replicate 2 read-dshiftctx ++ replicate 2 read-lookup ++ replicate 2 read-lt ++ replicate 2 read-le ++ replicate 3 read-max ++ replicate 6 read-interval ++ replicate 7 read-ishift ++ replicate 8 read-isubst ++ replicate 11 read-shift ++ replicate 12 read-subst ++ replicate 10 read-dshift ++ replicate 10 read-dsubst ++ replicate 11 read-has ++ replicate 7 read-eq
+abbrev pub readings : List Reads
+readings = read-ctx ∷ read-dshiftctx ∷ read-lookup ∷ read-lt ∷ read-le ∷ read-max ∷ read-interval ∷ read-ishift ∷ read-isubst ∷ read-shift ∷ read-subst ∷ read-dshift ∷ read-dsubst ∷ read-has ∷ read-eq ∷ []
+
+-- end of readings
+
+abbrev pub concluding : ℕ → Reads
+concluding rule = getD readings (kind-of rule) no-reading
 
 -- rows: 24 words, as docs/FORMAT.md has them
 
@@ -158,7 +171,7 @@ unfoldable pub cited-at : List ℕ → ℕ → List ℕ
 cited-at R i = take (row-word 1 R i) (row-word 2 R i ∷ row-word 3 R i ∷ row-word 4 R i ∷ row-word 5 R i ∷ row-word 6 R i ∷ row-word 7 R i ∷ row-word 8 R i ∷ row-word 9 R i ∷ row-word 10 R i ∷ row-word 11 R i ∷ [])
 
 unfoldable pub row-at : ℕ → List ℕ → List ℕ → ℕ → Option Row
-row-at n R C i = getD concluding (row-word 0 R i) no-reading n C (row-word 13 R i) (row-word 14 R i) (row-word 15 R i) (row-word 16 R i) (row-word 17 R i) >>= λ j. some (record { rule = row-word 0 R i; refs = cited-at R i; judgment = j })
+row-at n R C i = concluding (row-word 0 R i) n C (row-word 13 R i) (row-word 14 R i) (row-word 15 R i) (row-word 16 R i) (row-word 17 R i) >>= λ j. some (record { rule = row-word 0 R i; refs = cited-at R i; judgment = j })
 
 -- so many rows, over so many cells, the newest first
 unfoldable pub table-at : (rows cells : ℕ) → List ℕ → List ℕ → Option (List Row)
@@ -219,6 +232,7 @@ pub record States (n : ℕ) (C A : List ℕ) (table : List Row) (k : ℕ) (c : C
 
 -- Terms and contexts with a lam's and a plam's annotation, as the walk counts them.
 unfoldable pub term-by : (ℕ → Option Term) → (ℕ → Option Interval) → Kind → (a b c : ℕ) → Option Term
+-- written by tools/written.py: a term
 term-by at iat k-u a b c = some (Universe a)
 term-by at iat k-v a b c = some (Var a)
 term-by at iat k-nat a b c = some Nat
@@ -228,7 +242,9 @@ term-by at iat k-lam a b c = at a >>= λ x. at b >>= λ y. some (Lam x y)
 term-by at iat k-app a b c = at a >>= λ x. at b >>= λ y. some (App x y)
 term-by at iat k-path a b c = at a >>= λ x. at b >>= λ y. at c >>= λ z. some (Path x y z)
 term-by at iat k-plam a b c = at a >>= λ x. at b >>= λ y. some (PathLam x y)
-term-by at iat k-papp a b c = at a >>= λ x. iat b >>= λ r. some (PathApp x r)
+term-by at iat k-papp a b c = at a >>= λ x. iat b >>= λ y. some (PathApp x y)
+
+-- end of a term
 
 unfoldable pub scope-by : (ℕ → Option Context) → (ℕ → Option Term) → CKind → (a b : ℕ) → Option Context
 scope-by at tat k-nil a b = some Nil

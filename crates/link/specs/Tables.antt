@@ -1,4 +1,5 @@
--- What the words of a cell and of a row stand for: a constructor a kind. Written by tools/tables.py.
+-- What the words of a cell and of a row stand for: a constructor a kind.
+-- Written by tools/written.py from tools/language.py; `python3 tools/written.py` makes it again.
 use Prim.Native.Nat.{ℕ}
 use mathlib.Core.Path.{_≡_, refl}
 use mathlib.Core.List.{List, [], _∷_}

@@ -63,6 +63,7 @@ some-is e = cc
 module _ (C : List ℕ) (n f : ℕ) (cell : (m : ℕ) (r : Interval) → interval-at f C m ≡ some r → Interval-cell C m r) where
   interval-kind : (k : IKind) {q : Interval} → cell-word C n 0 ≡ ikind-byte k → interval-by (lower n (interval-at f C)) k (part 1 C n) (part 2 C n) ≡ some q → Interval-cell C n q
   unfolding interval-by
+  -- written by tools/written.py: cell of an interval
   interval-kind k-0 h e = rw (← some-is e) (cell-0 h)
   interval-kind k-1 h e = rw (← some-is e) (cell-1 h)
   interval-kind k-dim h e = rw (← some-is e) (cell-dim h refl)
@@ -77,6 +78,7 @@ module _ (C : List ℕ) (n f : ℕ) (cell : (m : ℕ) (r : Interval) → interva
       let a = part-then C n 1 (interval-at f C) _ e in
       let b = part-then C n 2 (interval-at f C) _ (a .rest) in
       rw (← some-is (b .rest)) (cell-join h (a .lies) (cell _ _ (a .is)) (b .lies) (cell _ _ (b .is)))
+  -- end of cell of an interval
 
 pub interval-cell : (f : ℕ) (C : List ℕ) (n : ℕ) (q : Interval) → interval-at f C n ≡ some q → Interval-cell C n q
 unfolding interval-at
@@ -90,6 +92,7 @@ interval-cell (suc f) C n q e =
 module _ (C : List ℕ) (n f : ℕ) (cell : (m : ℕ) (t : Quote) → quote-at f C m ≡ some t → Quote-cell C m t) where
   quote-kind : (k : Kind) {q : Quote} → cell-word C n 0 ≡ kind-byte k → quote-by (lower n (quote-at f C)) (lower n (interval-at f C)) k (part 1 C n) (part 2 C n) (part 3 C n) ≡ some q → Quote-cell C n q
   unfolding quote-by
+  -- written by tools/written.py: cell of a quote
   quote-kind k-u h e = rw (← some-is e) (cell-u h refl)
   quote-kind k-v h e = rw (← some-is e) (cell-v h refl)
   quote-kind k-nat h e = rw (← some-is e) (cell-nat h)
@@ -117,6 +120,7 @@ module _ (C : List ℕ) (n f : ℕ) (cell : (m : ℕ) (t : Quote) → quote-at f
       let a = part-then C n 1 (quote-at f C) _ e in
       let b = part-then C n 2 (interval-at f C) _ (a .rest) in
       rw (← some-is (b .rest)) (cell-papp h (a .lies) (cell _ _ (a .is)) (b .lies) (interval-cell f C _ _ (b .is)))
+  -- end of cell of a quote
 
 pub quote-cell : (f : ℕ) (C : List ℕ) (n : ℕ) (q : Quote) → quote-at f C n ≡ some q → Quote-cell C n q
 unfolding quote-at

@@ -6,12 +6,12 @@ use native.Mathlib.Omega.{arith}
 use native.Mathlib.Nat.{add-zero, zero-add}
 use lib.Dec.{lit≤}
 use lib.ListN.{length, getD}
-use Rattle.walk.specs.Judgment.{Judgment, Argument, number, of-interval, of-quote, of-context, arguments, ctx, dshiftctx, lookup, lt, le, max, interval, ishift, isubst, shift, subst as substitute, dshift, dsubst, has, eq}
+use Rattle.walk.specs.Judgment.{Judgment, Argument, number, of-interval, of-quote, of-context, arguments}
+use Rattle.walk.specs.Judgment as J
 use Rattle.walk.specs.State.{Row}
 use Rattle.walk.specs.Demand.{Row-at, newest, older, Cites, none-cited, _also_, Derivation-order}
-use Rattle.rules.specs.Concludes.{concludes}
+use Rattle.walk.specs.Concludes.{concludes, few-premises}
 use Rattle.link.specs.Table.{interval-at, quote-at, context-at, Stands-for, Row-words}
-use Rattle.link.specs.Concludes.{few-premises}
 use Rattle.text.specs.Text.{Text, each, row-word}
 use Rattle.text.specs.Listing.{row-line}
 use Rattle.text.specs.Said.{Argument-word, word-number, word-term, word-interval, word-context, Arguments-in, no-more, and-then, Refs-in, no-refs, and-ref, Row-in, row-text}
@@ -23,21 +23,24 @@ pub next : (k m : ℕ) → k + suc m ≡ suc k + m
 next k m = omega arith
 
 at-most-five : (j : Judgment) → length (arguments j) ≤ 5
-at-most-five (ctx d g) = lit≤ tt
-at-most-five (dshiftctx g k h) = lit≤ tt
-at-most-five (lookup g n t) = lit≤ tt
-at-most-five (lt m n) = lit≤ tt
-at-most-five (le m n) = lit≤ tt
-at-most-five (max m n k) = lit≤ tt
-at-most-five (interval d r) = lit≤ tt
-at-most-five (ishift r k q) = lit≤ tt
-at-most-five (isubst r k q p) = lit≤ tt
-at-most-five (shift t k r) = lit≤ tt
-at-most-five (substitute t k r p) = lit≤ tt
-at-most-five (dshift t k r) = lit≤ tt
-at-most-five (dsubst t k r p) = lit≤ tt
-at-most-five (has d g t a) = lit≤ tt
-at-most-five (eq d g a b t) = lit≤ tt
+-- written by tools/written.py: numbers of arguments
+at-most-five (J.ctx d g) = lit≤ tt
+at-most-five (J.dshiftctx g k h) = lit≤ tt
+at-most-five (J.lookup g n A) = lit≤ tt
+at-most-five (J.lt m n) = lit≤ tt
+at-most-five (J.le m n) = lit≤ tt
+at-most-five (J.max m n k) = lit≤ tt
+at-most-five (J.interval d r) = lit≤ tt
+at-most-five (J.ishift r k r′) = lit≤ tt
+at-most-five (J.isubst r k s r′) = lit≤ tt
+at-most-five (J.shift t k t′) = lit≤ tt
+at-most-five (J.subst t k s t′) = lit≤ tt
+at-most-five (J.dshift t k t′) = lit≤ tt
+at-most-five (J.dsubst t k r t′) = lit≤ tt
+at-most-five (J.has d g t A) = lit≤ tt
+at-most-five (J.eq d g a b A) = lit≤ tt
+
+-- end of numbers of arguments
 
 stands : (n : ℕ) (C : List ℕ) (w : ℕ) (a : Argument) → Stands-for n C w a → Argument-word C w a
 stands n C w (number m) e = rw e word-number

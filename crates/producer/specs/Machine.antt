@@ -237,6 +237,7 @@ known-or Nothing m = m
 unfoldable pub intern : (k a b c : ℕ) → W ℕ
 intern k a b c = λ w. known-or (find-node (w .cells) (w .state .cells) k a b c) (new-cell k a b c) w
 
+-- written by tools/written.py: cells of each kind
 abbrev pub make-universe : ℕ → W ℕ
 make-universe n = intern 1 n 0 0
 
@@ -246,6 +247,9 @@ make-var n = intern 2 n 0 0
 abbrev pub make-nat : W ℕ
 make-nat = intern 3 0 0 0
 
+abbrev pub make-zero : W ℕ
+make-zero = intern 4 0 0 0
+
 abbrev pub make-pi : ℕ → ℕ → W ℕ
 make-pi a b = intern 5 a b 0
 
@@ -253,7 +257,7 @@ abbrev pub make-lam : ℕ → ℕ → W ℕ
 make-lam a b = intern 6 a b 0
 
 abbrev pub make-app : ℕ → ℕ → W ℕ
-make-app f a = intern 7 f a 0
+make-app a b = intern 7 a b 0
 
 abbrev pub make-path : ℕ → ℕ → ℕ → W ℕ
 make-path a b c = intern 8 a b c
@@ -262,7 +266,7 @@ abbrev pub make-plam : ℕ → ℕ → W ℕ
 make-plam a b = intern 9 a b 0
 
 abbrev pub make-papp : ℕ → ℕ → W ℕ
-make-papp p r = intern 10 p r 0
+make-papp a b = intern 10 a b 0
 
 abbrev pub make-i0 : W ℕ
 make-i0 = intern 16 0 0 0
@@ -285,9 +289,10 @@ make-join a b = intern 21 a b 0
 abbrev pub make-nil : W ℕ
 make-nil = intern 32 0 0 0
 
--- the last type, then the rest
 abbrev pub make-cons : ℕ → ℕ → W ℕ
-make-cons a g = intern 33 a g 0
+make-cons a b = intern 33 a b 0
+
+-- end of cells of each kind
 
 -- rows
 

@@ -1,4 +1,5 @@
-// The numbers of docs/FORMAT.md: the kinds of judgments, the 95 rules.
+// The numbers of docs/FORMAT.md: the kinds of judgments, the rules.
+// Written by tools/written.py from tools/language.py; `python3 tools/written.py` makes it again.
 
 // Kinds of judgments, as a row's word 19 has them.
 pub const IS_CTX: u32 = 0;

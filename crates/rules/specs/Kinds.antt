@@ -1,11 +1,11 @@
--- Judgments, nodes and rules by number: a judgment's name and the sorts of its arguments, a node's name and its parts,
--- the kind of judgment that a rule concludes. Assumes nothing.
+-- Judgments and nodes by number: a judgment's name and the sorts of its arguments, a node's name and its parts. Assumes nothing.
 use Prim.Native.Nat.{ℕ}
 use Prim.Native.String.{String}
 use mathlib.Core.List.{List, [], _∷_, _++_}
 use lib.ListN.{getD, replicate}
 
 -- The sorts of arguments and parts: a number stands as itself, the others as a cell.
+-- written by tools/written.py: sorts
 abbrev pub absent : ℕ
 absent = 0
 
@@ -21,6 +21,8 @@ interval = 3
 abbrev pub context : ℕ
 context = 4
 
+-- end of sorts
+
 -- A judgment: its name and its arguments' sorts.
 pub record Form : Type 0 where
   pub name : String
@@ -33,6 +35,7 @@ _takes_ s l = record { name = s; sorts = l }
 -- The judgments by their kind.
 abbrev pub judgments : List Form
 judgments =
+    -- written by tools/written.py: judgments
     ("ctx" takes number ∷ context ∷ []) ∷
     ("dshiftctx" takes context ∷ number ∷ context ∷ []) ∷
     ("lookup" takes context ∷ number ∷ term ∷ []) ∷
@@ -48,6 +51,7 @@ judgments =
     ("dsubst" takes term ∷ number ∷ interval ∷ term ∷ []) ∷
     ("has" takes number ∷ context ∷ term ∷ term ∷ []) ∷
     ("eq" takes number ∷ context ∷ term ∷ term ∷ term ∷ []) ∷
+    -- end of judgments
     []
 
 -- The sort of a judgment's argument, counted from 0.
@@ -81,6 +85,7 @@ no-node = "" shows []
 -- not shown.
 abbrev pub nodes : List Node
 nodes =
+    -- written by tools/written.py: nodes
     no-node ∷
     ("u" shows (number in-word 1) ∷ []) ∷
     ("v" shows (number in-word 1) ∷ []) ∷
@@ -102,6 +107,7 @@ nodes =
     replicate 10 no-node ++
     ("nil" shows []) ∷
     ("cons" shows (term in-word 1) ∷ (context in-word 2) ∷ []) ∷
+    -- end of nodes
     []
 
 -- The part of a node that is shown at a place, counted from 0; absent, in word 0, past the last.
@@ -111,28 +117,12 @@ parts-of k = getD nodes k no-node .parts
 unfoldable pub part-of : ℕ → ℕ → Part
 part-of k n = getD (parts-of k) n (absent in-word 0)
 
--- The kind of judgment that each rule concludes, in the order of the rules' numbers.
-abbrev pub kinds : List ℕ
-kinds =
-    replicate 2 0 ++
-    replicate 2 1 ++
-    replicate 2 2 ++
-    replicate 2 3 ++
-    replicate 2 4 ++
-    replicate 3 5 ++
-    replicate 6 6 ++
-    replicate 7 7 ++
-    replicate 8 8 ++
-    replicate 11 9 ++
-    replicate 12 10 ++
-    replicate 10 11 ++
-    replicate 10 12 ++
-    replicate 11 13 ++
-    replicate 7 14
+-- How many judgments and nodes there are, kinds that are no node among them.
+-- written by tools/written.py: counts
+abbrev pub judgment-count : ℕ
+judgment-count = 15
 
--- A number that is no rule concludes a kind that no judgment has.
-abbrev pub no-kind : ℕ
-no-kind = 255
+abbrev pub node-count : ℕ
+node-count = 34
 
-unfoldable pub kind-of : ℕ → ℕ
-kind-of n = getD kinds n no-kind
+-- end of counts

@@ -5,7 +5,7 @@ use Prim.Native.Char.{code}
 use Prim.Native.String.{String, [], _∷_}
 use mathlib.Core.List.{List, [] as []ᴸ, _∷_ as _∷ᴸ_}
 use lib.ListN.{getD}
-use Rattle.walk.specs.Rule.{rules}
+use Rattle.walk.specs.Rule.{rules, no-rule}
 use Rattle.rules.specs.Kinds.{judgments, nodes}
 use Rattle.rules.specs.declared.Name.{Name}
 use Rattle.rules.specs.declared.Name.the-variants.{Rule, Judgment, Node as Of-node}
@@ -17,7 +17,7 @@ bytes (c ∷ s) = code c ∷ᴸ bytes s
 
 -- A number that is no rule, no judgment or no node has an empty name.
 unfoldable pub rule-name : ℕ → List ℕ
-rule-name n = bytes (getD rules n (record { number = n; name = "" }) .name)
+rule-name n = bytes (getD rules n no-rule .name)
 
 unfoldable pub judgment-name : ℕ → List ℕ
 judgment-name k = bytes (getD judgments k (record { name = ""; sorts = []ᴸ }) .name)

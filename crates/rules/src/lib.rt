@@ -5,7 +5,8 @@ mod tables;
 ghost use mathlib.Core.Path.{_≡_};
 ghost use lib.ListN.{length, getD};
 ghost use Rattle.rules.specs.Names.{rule-name, judgment-name, node-name, name-of};
-ghost use Rattle.rules.specs.Kinds.{kind-of, sorts-of, sort-of, part-of};
+ghost use Rattle.walk.specs.Rule.{kind-of};
+ghost use Rattle.rules.specs.Kinds.{sorts-of, sort-of, part-of};
 
 // What has a name: a rule, a judgment by its kind, a node of a term, an interval or a context by its kind.
 pub enum Name {
@@ -17,7 +18,7 @@ pub enum Name {
 fn rule_length(n: u32) -> usize
     ensures { λ r. ⌜ r ≡ length (rule-name n) ⌝ }
 {
-    if n < 95 {
+    if n < tables::RULES {
         return tables::RULE_LENGTHS[n as usize];
     }
     0
@@ -35,7 +36,7 @@ fn rule_byte(n: u32, k: usize) -> u8
 fn judgment_length(n: u32) -> usize
     ensures { λ r. ⌜ r ≡ length (judgment-name n) ⌝ }
 {
-    if n < 15 {
+    if n < tables::JUDGMENTS {
         return tables::JUDGMENT_LENGTHS[n as usize];
     }
     0
@@ -53,7 +54,7 @@ fn judgment_byte(n: u32, k: usize) -> u8
 fn node_length(n: u32) -> usize
     ensures { λ r. ⌜ r ≡ length (node-name n) ⌝ }
 {
-    if n < 34 {
+    if n < tables::NODES {
         return tables::NODE_LENGTHS[n as usize];
     }
     0
@@ -94,7 +95,7 @@ pub fn name_byte(name: Name, at: usize) -> u8
 pub fn rule_kind(rule: u32) -> u32
     ensures { λ r. ⌜ r ≡ kind-of rule ⌝ }
 {
-    if rule < 95 {
+    if rule < tables::RULES {
         return tables::RULE_KINDS[rule as usize];
     }
     255
@@ -104,7 +105,7 @@ pub fn rule_kind(rule: u32) -> u32
 pub fn argument_count(kind: u32) -> u32
     ensures { λ r. ⌜ r ≡ length (sorts-of kind) ⌝ }
 {
-    if kind < 15 {
+    if kind < tables::JUDGMENTS {
         return tables::JUDGMENT_COUNTS[kind as usize];
     }
     0
@@ -114,7 +115,7 @@ pub fn argument_count(kind: u32) -> u32
 pub fn argument_sort(kind: u32, n: u32) -> u32
     ensures { λ r. ⌜ r ≡ sort-of kind n ⌝ }
 {
-    if kind < 15 {
+    if kind < tables::JUDGMENTS {
         if n < 5 {
             return tables::JUDGMENT_SORTS[(kind as usize) * 5 + n as usize];
         }
@@ -126,7 +127,7 @@ pub fn argument_sort(kind: u32, n: u32) -> u32
 pub fn part_sort(kind: u32, n: u32) -> u32
     ensures { λ r. ⌜ r ≡ part-of kind n .sort ⌝ }
 {
-    if kind < 34 {
+    if kind < tables::NODES {
         if n < 3 {
             return tables::PART_SORTS[(kind as usize) * 3 + n as usize];
         }
@@ -138,7 +139,7 @@ pub fn part_sort(kind: u32, n: u32) -> u32
 pub fn part_word(kind: u32, n: u32) -> u32
     ensures { λ r. ⌜ r ≡ part-of kind n .word ⌝ }
 {
-    if kind < 34 {
+    if kind < tables::NODES {
         if n < 3 {
             return tables::PART_WORDS[(kind as usize) * 3 + n as usize];
         }

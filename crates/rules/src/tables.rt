@@ -1,4 +1,12 @@
 // The tables of names, kinds and sorts. The functions of lib.rt read them, and their proofs compare each with its rule.
+// Written by tools/written.py from tools/language.py; `python3 tools/written.py` makes it again.
+
+// How many rules, judgments and nodes there are.
+pub const RULES: u32 = 95;
+
+pub const JUDGMENTS: u32 = 15;
+
+pub const NODES: u32 = 34;
 
 // Names take 16 bytes each, filled up with _.
 pub const RULE_NAMES: [u8; 1520] = *b"\

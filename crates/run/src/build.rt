@@ -33,6 +33,7 @@ pub fn parts(kind: u32) -> u32
     ensures { λ r. ⌜ r ≡ parts-of kind ⌝ }
 {
     match kind {
+        // written by tools/written.py: what follows a kind
         kinds::UNIVERSE => 2,
         kinds::VAR => 2,
         kinds::NAT => 1,
@@ -49,6 +50,7 @@ pub fn parts(kind: u32) -> u32
         kinds::NEG => 3,
         kinds::MEET => 4,
         kinds::JOIN => 4,
+        // end of what follows a kind
         _ => 0,
     }
 }

@@ -159,12 +159,14 @@ sizes-interval (ℕ.suc f) depth =
     let number : Sizes (own depth) (deep index (depth + 1) ∷ []) (λ l n. size-on (own depth n) (indexed l)) byte = after-size (own depth) (sizes-index (depth + 1)) in
     let part : (before : ℕ → Sized) → Sizes before (deep interval (depth + 1) ∷ []) (λ a n. size-on (before n) (size-interval a (depth + 1))) (read-interval f) = λ before. after-size before (sizes-interval f (depth + 1)) in
     sizes-node ikinds iparts interval depth (λ b n g. refl) (λ k. elim k [
+      -- written by tools/written.py: kinds of an interval
       | k-0 ↦ done I0 (λ n. refl)
       | k-1 ↦ done I1 (λ n. refl)
       | k-dim ↦ then number (λ l. done (Dim l) (λ n. node-index depth n l))
       | k-neg ↦ then (part (own depth)) (λ a. done (Neg a) (λ n. refl))
       | k-meet ↦ then (part (own depth)) (λ a. then (part _) (λ b. done (Meet a b) (λ n. size-on-on (own depth n) _ _)))
       | k-join ↦ then (part (own depth)) (λ a. then (part _) (λ b. done (Join a b) (λ n. size-on-on (own depth n) _ _)))
+      -- end of kinds of an interval
     ])
 
 sizes-term : (f depth : ℕ) → Sizes fits (deep term depth ∷ []) (λ t. size-term t depth) (read-term f)
@@ -174,6 +176,7 @@ sizes-term (ℕ.suc f) depth =
     let number : Sizes (own depth) (deep index (depth + 1) ∷ []) (λ l n. size-on (own depth n) (indexed l)) byte = after-size (own depth) (sizes-index (depth + 1)) in
     let part : (before : ℕ → Sized) → Sizes before (deep term (depth + 1) ∷ []) (λ a n. size-on (before n) (size-term a (depth + 1))) (read-term f) = λ before. after-size before (sizes-term f (depth + 1)) in
     sizes-node kinds parts term depth (λ b n g. refl) (λ k. elim k [
+      -- written by tools/written.py: kinds of a term
       | k-u ↦ then number (λ l. done (Universe l) (λ n. node-index depth n l))
       | k-v ↦ then number (λ l. done (Var l) (λ n. node-index depth n l))
       | k-nat ↦ done Nat (λ n. refl)
@@ -183,7 +186,8 @@ sizes-term (ℕ.suc f) depth =
       | k-app ↦ then (part (own depth)) (λ a. then (part _) (λ b. done (App a b) (λ n. size-on-on (own depth n) _ _)))
       | k-path ↦ then (part (own depth)) (λ a. then (part _) (λ b. then (part _) (λ c. done (Path a b c) (λ n. three (own depth n) _ _ _))))
       | k-plam ↦ then (part (own depth)) (λ a. then (part _) (λ b. done (PathLam a b) (λ n. size-on-on (own depth n) _ _)))
-      | k-papp ↦ then (part (own depth)) (λ a. then (after-size _ (sizes-interval f (depth + 1))) (λ r. done (PathApp a r) (λ n. size-on-on (own depth n) _ _)))
+      | k-papp ↦ then (part (own depth)) (λ a. then (after-size _ (sizes-interval f (depth + 1))) (λ b. done (PathApp a b) (λ n. size-on-on (own depth n) _ _)))
+      -- end of kinds of a term
     ])
 
 pub measure-term : (f n : ℕ) (bs : List ℕ) (at : ℕ) → Counts (λ t. size-term t 0 n) (read-term f bs at) (measure bs (deep term 0 ∷ []) n at)

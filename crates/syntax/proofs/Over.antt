@@ -92,18 +92,21 @@ an-interval : (f : ℕ) → Reads f (interval ∷ []) (read-interval f)
 unfolding read-interval after
 an-interval ℕ.zero = nothing interval
 an-interval (ℕ.suc f) = node ikinds iparts interval (λ b. refl) (λ k. elim k [
+  -- written by tools/written.py: kinds of an interval
   | k-0 ↦ done _
   | k-1 ↦ done _
   | k-dim ↦ then an-index (λ n. done _)
   | k-neg ↦ then (an-interval f) (λ a. done _)
   | k-meet ↦ then (an-interval f) (λ a. then (an-interval f) (λ b. done _))
   | k-join ↦ then (an-interval f) (λ a. then (an-interval f) (λ b. done _))
+  -- end of kinds of an interval
 ])
 
 a-term : (f : ℕ) → Reads f (term ∷ []) (read-term f)
 unfolding read-term after
 a-term ℕ.zero = nothing term
 a-term (ℕ.suc f) = node kinds parts term (λ b. refl) (λ k. elim k [
+  -- written by tools/written.py: kinds of a term
   | k-u ↦ then an-index (λ n. done _)
   | k-v ↦ then an-index (λ n. done _)
   | k-nat ↦ done _
@@ -113,7 +116,8 @@ a-term (ℕ.suc f) = node kinds parts term (λ b. refl) (λ k. elim k [
   | k-app ↦ then (a-term f) (λ a. then (a-term f) (λ b. done _))
   | k-path ↦ then (a-term f) (λ a. then (a-term f) (λ b. then (a-term f) (λ c. done _)))
   | k-plam ↦ then (a-term f) (λ a. then (a-term f) (λ b. done _))
-  | k-papp ↦ then (a-term f) (λ a. then (an-interval f) (λ r. done _))
+  | k-papp ↦ then (a-term f) (λ a. then (an-interval f) (λ b. done _))
+  -- end of kinds of a term
 ])
 
 pub over-term : (f : ℕ) (bs : List ℕ) (at : ℕ) → length bs ≤ f → over bs (term ∷ []) at ≡ next-of (read-term f bs at)

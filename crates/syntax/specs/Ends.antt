@@ -86,18 +86,21 @@ pub goes-interval : (f : ℕ) → Goes 1 (read-interval f)
 unfolding read-interval
 goes-interval ℕ.zero = goes-nothing
 goes-interval (ℕ.suc f) = goes-then {k = 0} (goes-one ikinds) (λ k. elim k [
+  -- written by tools/written.py: kinds of an interval
   | k-0 ↦ goes-ok _
   | k-1 ↦ goes-ok _
   | k-dim ↦ goes-part goes-byte (λ n. goes-ok _)
   | k-neg ↦ goes-part (goes-interval f) (λ a. goes-ok _)
   | k-meet ↦ goes-part (goes-interval f) (λ a. goes-part (goes-interval f) (λ b. goes-ok _))
   | k-join ↦ goes-part (goes-interval f) (λ a. goes-part (goes-interval f) (λ b. goes-ok _))
+  -- end of kinds of an interval
 ])
 
 pub goes-term : (f : ℕ) → Goes 1 (read-term f)
 unfolding read-term
 goes-term ℕ.zero = goes-nothing
 goes-term (ℕ.suc f) = goes-then {k = 0} (goes-one kinds) (λ k. elim k [
+  -- written by tools/written.py: kinds of a term
   | k-u ↦ goes-part goes-byte (λ n. goes-ok _)
   | k-v ↦ goes-part goes-byte (λ n. goes-ok _)
   | k-nat ↦ goes-ok _
@@ -107,7 +110,8 @@ goes-term (ℕ.suc f) = goes-then {k = 0} (goes-one kinds) (λ k. elim k [
   | k-app ↦ goes-part (goes-term f) (λ a. goes-part (goes-term f) (λ b. goes-ok _))
   | k-path ↦ goes-part (goes-term f) (λ a. goes-part (goes-term f) (λ b. goes-part (goes-term f) (λ c. goes-ok _)))
   | k-plam ↦ goes-part (goes-term f) (λ a. goes-part (goes-term f) (λ b. goes-ok _))
-  | k-papp ↦ goes-part (goes-term f) (λ a. goes-part (goes-interval f) (λ r. goes-ok _))
+  | k-papp ↦ goes-part (goes-term f) (λ a. goes-part (goes-interval f) (λ b. goes-ok _))
+  -- end of kinds of a term
 ])
 
 pub goes-terms : (f n : ℕ) → Goes 0 (read-terms f n)

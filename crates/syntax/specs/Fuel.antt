@@ -15,6 +15,7 @@ use Rattle.syntax.specs.Calls.{twice, size-first}
 -- At most so many nodes stand above one another.
 abbrev pub IHeight : ℕ → Interval → Type 0
 IHeight zero a = ⊥
+-- written by tools/written.py: height of an interval
 IHeight (suc g) I0 = Unit {0}
 IHeight (suc g) I1 = Unit {0}
 IHeight (suc g) (Dim n) = Unit {0}
@@ -22,9 +23,12 @@ IHeight (suc g) (Neg a) = IHeight g a
 IHeight (suc g) (Meet a b) = IHeight g a × IHeight g b
 IHeight (suc g) (Join a b) = IHeight g a × IHeight g b
 
+-- end of height of an interval
+
 abbrev pub Height : ℕ → Term → Type 0
 Height zero t = ⊥
-Height (suc g) (Universe l) = Unit {0}
+-- written by tools/written.py: height of a term
+Height (suc g) (Universe n) = Unit {0}
 Height (suc g) (Var n) = Unit {0}
 Height (suc g) Nat = Unit {0}
 Height (suc g) Zero = Unit {0}
@@ -33,7 +37,9 @@ Height (suc g) (Lam a b) = Height g a × Height g b
 Height (suc g) (App a b) = Height g a × Height g b
 Height (suc g) (Path a b c) = Height g a × Height g b × Height g c
 Height (suc g) (PathLam a b) = Height g a × Height g b
-Height (suc g) (PathApp a r) = Height g a × IHeight g r
+Height (suc g) (PathApp a b) = Height g a × IHeight g b
+
+-- end of height of a term
 
 -- what a reader gives
 
@@ -81,12 +87,14 @@ keeps-interval zero (suc g) = record { on = λ bs at e h. absurd (let z : _≡_ 
 keeps-interval (suc f) (suc g) =
     let part : Keeps (IHeight g) (read-interval f) (read-interval g) = keeps-interval f g in
     keeps-on (one-of ikinds) (λ k. elim k [
+      -- written by tools/written.py: kinds of an interval
       | k-0 ↦ keeps-ok _
       | k-1 ↦ keeps-ok _
       | k-dim ↦ keeps-on byte (λ n. keeps-ok _)
       | k-neg ↦ last Neg part (λ a h. h)
       | k-meet ↦ keeps-then part (λ a. makes-then makes-any (λ b u. makes-ok _ (λ h. h .0))) (λ a. last (Meet a) part (λ b h. h .1))
       | k-join ↦ keeps-then part (λ a. makes-then makes-any (λ b u. makes-ok _ (λ h. h .0))) (λ a. last (Join a) part (λ b h. h .1))
+      -- end of kinds of an interval
     ])
 
 keeps-term : (f g : ℕ) → Keeps (Height g) (read-term f) (read-term g)
@@ -96,6 +104,7 @@ keeps-term zero (suc g) = record { on = λ bs at e h. absurd (let z : _≡_ {A =
 keeps-term (suc f) (suc g) =
     let part : Keeps (Height g) (read-term f) (read-term g) = keeps-term f g in
     keeps-on (one-of kinds) (λ k. elim k [
+      -- written by tools/written.py: kinds of a term
       | k-u ↦ keeps-on byte (λ n. keeps-ok _)
       | k-v ↦ keeps-on byte (λ n. keeps-ok _)
       | k-nat ↦ keeps-ok _
@@ -105,7 +114,8 @@ keeps-term (suc f) (suc g) =
       | k-app ↦ keeps-then part (λ a. makes-then makes-any (λ b u. makes-ok _ (λ h. h .0))) (λ a. last (App a) part (λ b h. h .1))
       | k-path ↦ keeps-then part (λ a. makes-then makes-any (λ b u. makes-then makes-any (λ c u. makes-ok _ (λ h. h .0)))) (λ a. keeps-then part (λ b. makes-then makes-any (λ c u. makes-ok _ (λ h. h .1))) (λ b. last (Path a b) part (λ c h. h .2)))
       | k-plam ↦ keeps-then part (λ a. makes-then makes-any (λ b u. makes-ok _ (λ h. h .0))) (λ a. last (PathLam a) part (λ b h. h .1))
-      | k-papp ↦ keeps-then part (λ a. makes-then makes-any (λ r u. makes-ok _ (λ h. h .0))) (λ a. last (PathApp a) (keeps-interval f g) (λ r h. h .1))
+      | k-papp ↦ keeps-then part (λ a. makes-then makes-any (λ b u. makes-ok _ (λ h. h .0))) (λ a. last (PathApp a) (keeps-interval f g) (λ b h. h .1))
+      -- end of kinds of a term
     ])
 
 -- heights
@@ -125,19 +135,23 @@ one-part depth nodes f e = let w = size-first (node depth nodes 0) f e in (node-
 
 depth-interval : (a : Interval) (depth nodes : ℕ) {n : ℕ} → size-interval a depth nodes ≡ fits n → depth ≤ 32
 unfolding size-interval
+-- written by tools/written.py: depth of an interval
 depth-interval I0 depth nodes e = node-depth depth nodes 0 e
 depth-interval I1 depth nodes e = node-depth depth nodes 0 e
-depth-interval (Dim i) depth nodes e = node-depth depth nodes i e
+depth-interval (Dim n) depth nodes e = node-depth depth nodes n e
 depth-interval (Neg a) depth nodes e = one-part depth nodes _ e .0
 depth-interval (Meet a b) depth nodes e = one-part depth nodes _ e .0
 depth-interval (Join a b) depth nodes e = one-part depth nodes _ e .0
 
+-- end of depth of an interval
+
 fits-interval : (a : Interval) (g depth nodes : ℕ) {n : ℕ} → size-interval a depth nodes ≡ fits n → 33 ≤ g + depth → IHeight g a
 unfolding size-interval
 fits-interval a zero depth nodes e l = omega (arith, depth-interval a depth nodes e)
+-- written by tools/written.py: an interval that fits
 fits-interval I0 (suc g) depth nodes e l = tt
 fits-interval I1 (suc g) depth nodes e l = tt
-fits-interval (Dim i) (suc g) depth nodes e l = tt
+fits-interval (Dim n) (suc g) depth nodes e l = tt
 fits-interval (Neg a) (suc g) depth nodes e l = fits-interval a g (depth + 1) _ (one-part depth nodes _ e .1 .1) (omega arith)
 fits-interval (Meet a b) (suc g) depth nodes e l =
     let w = one-part depth nodes _ e .1 in
@@ -148,10 +162,13 @@ fits-interval (Join a b) (suc g) depth nodes e l =
     let v = size-first (size-interval a (depth + 1) (w .0)) (size-interval b (depth + 1)) (w .1) in
     (fits-interval a g (depth + 1) _ (v .1) (omega arith), fits-interval b g (depth + 1) _ (v .2) (omega arith))
 
+-- end of an interval that fits
+
 depth-term : (t : Term) (depth nodes : ℕ) {n : ℕ} → size-term t depth nodes ≡ fits n → depth ≤ 32
 unfolding size-term
-depth-term (Universe i) depth nodes e = node-depth depth nodes i e
-depth-term (Var i) depth nodes e = node-depth depth nodes i e
+-- written by tools/written.py: depth of a term
+depth-term (Universe n) depth nodes e = node-depth depth nodes n e
+depth-term (Var n) depth nodes e = node-depth depth nodes n e
 depth-term Nat depth nodes e = node-depth depth nodes 0 e
 depth-term Zero depth nodes e = node-depth depth nodes 0 e
 depth-term (Pi a b) depth nodes e = one-part depth nodes _ e .0
@@ -159,13 +176,16 @@ depth-term (Lam a b) depth nodes e = one-part depth nodes _ e .0
 depth-term (App a b) depth nodes e = one-part depth nodes _ e .0
 depth-term (Path a b c) depth nodes e = one-part depth nodes _ e .0
 depth-term (PathLam a b) depth nodes e = one-part depth nodes _ e .0
-depth-term (PathApp a r) depth nodes e = one-part depth nodes _ e .0
+depth-term (PathApp a b) depth nodes e = one-part depth nodes _ e .0
+
+-- end of depth of a term
 
 fits-term : (t : Term) (g depth nodes : ℕ) {n : ℕ} → size-term t depth nodes ≡ fits n → 33 ≤ g + depth → Height g t
 unfolding size-term
 fits-term t zero depth nodes e l = omega (arith, depth-term t depth nodes e)
-fits-term (Universe i) (suc g) depth nodes e l = tt
-fits-term (Var i) (suc g) depth nodes e l = tt
+-- written by tools/written.py: a term that fits
+fits-term (Universe n) (suc g) depth nodes e l = tt
+fits-term (Var n) (suc g) depth nodes e l = tt
 fits-term Nat (suc g) depth nodes e l = tt
 fits-term Zero (suc g) depth nodes e l = tt
 fits-term (Pi a b) (suc g) depth nodes e l =
@@ -189,10 +209,12 @@ fits-term (PathLam a b) (suc g) depth nodes e l =
     let w = one-part depth nodes _ e .1 in
     let v = size-first (size-term a (depth + 1) (w .0)) (size-term b (depth + 1)) (w .1) in
     (fits-term a g (depth + 1) _ (v .1) (omega arith), fits-term b g (depth + 1) _ (v .2) (omega arith))
-fits-term (PathApp a r) (suc g) depth nodes e l =
+fits-term (PathApp a b) (suc g) depth nodes e l =
     let w = one-part depth nodes _ e .1 in
-    let v = size-first (size-term a (depth + 1) (w .0)) (size-interval r (depth + 1)) (w .1) in
-    (fits-term a g (depth + 1) _ (v .1) (omega arith), fits-interval r g (depth + 1) _ (v .2) (omega arith))
+    let v = size-first (size-term a (depth + 1) (w .0)) (size-interval b (depth + 1)) (w .1) in
+    (fits-term a g (depth + 1) _ (v .1) (omega arith), fits-interval b g (depth + 1) _ (v .2) (omega arith))
+
+-- end of a term that fits
 
 -- the laws
 

@@ -31,6 +31,7 @@ found {b = b} (entry q h) (suc n) k e = let f = found h n k e in omega arith
 -- the reader's tables
 
 abbrev pub kind-byte : Kind → ℕ
+-- written by tools/written.py: bytes of term kinds
 kind-byte k-u = 1
 kind-byte k-v = 2
 kind-byte k-nat = 3
@@ -42,7 +43,10 @@ kind-byte k-path = 8
 kind-byte k-plam = 9
 kind-byte k-papp = 10
 
+-- end of bytes of term kinds
+
 abbrev pub ikind-byte : IKind → ℕ
+-- written by tools/written.py: bytes of interval kinds
 ikind-byte k-0 = 16
 ikind-byte k-1 = 17
 ikind-byte k-dim = 18
@@ -50,17 +54,23 @@ ikind-byte k-neg = 19
 ikind-byte k-meet = 20
 ikind-byte k-join = 21
 
+-- end of bytes of interval kinds
+
 pub kind-is : (b : ℕ) (k : Kind) → getD kinds b none ≡ some k → b ≡ kind-byte k
 kind-is b k e = let f = found {byte = kind-byte} table b k e in omega arith
   where
     table : Table kind-byte 0 kinds
+    -- written by tools/written.py: table of term kinds
     table = blank (entry refl (entry refl (entry refl (entry refl (entry refl (entry refl (entry refl (entry refl (entry refl (entry refl end))))))))))
+    -- end of table of term kinds
 
 pub ikind-is : (b : ℕ) (k : IKind) → getD ikinds b none ≡ some k → b ≡ ikind-byte k
 ikind-is b k e = let f = found {byte = ikind-byte} table b k e in omega arith
   where
     table : Table ikind-byte 0 ikinds
+    -- written by tools/written.py: table of interval kinds
     table = blanks 16 0 (entry refl (entry refl (entry refl (entry refl (entry refl (entry refl end))))))
+    -- end of table of interval kinds
 
 pub code-is : (b : ℕ) (c : Code) → getD codes b none ≡ some c → b ≡ code-number c
 code-is b c e = let f = found {byte = code-number} table b c e in omega arith

@@ -15,6 +15,7 @@ use Rattle.syntax.specs.Calls.{twice}
 
 -- What follows the byte of a kind.
 unfoldable pub interval-of : ℕ → IKind → Reader Interval
+-- written by tools/written.py: reader of an interval
 interval-of f k-0 = ok I0
 interval-of f k-1 = ok I1
 interval-of f k-dim = byte >>= λ n. ok (Dim n)
@@ -22,7 +23,10 @@ interval-of f k-neg = read-interval f >>= λ a. ok (Neg a)
 interval-of f k-meet = read-interval f >>= λ a. read-interval f >>= λ b. ok (Meet a b)
 interval-of f k-join = read-interval f >>= λ a. read-interval f >>= λ b. ok (Join a b)
 
+-- end of reader of an interval
+
 unfoldable pub term-of : ℕ → Kind → Reader Term
+-- written by tools/written.py: reader of a term
 term-of f k-u = byte >>= λ n. ok (Universe n)
 term-of f k-v = byte >>= λ n. ok (Var n)
 term-of f k-nat = ok Nat
@@ -32,7 +36,9 @@ term-of f k-lam = read-term f >>= λ a. read-term f >>= λ b. ok (Lam a b)
 term-of f k-app = read-term f >>= λ a. read-term f >>= λ b. ok (App a b)
 term-of f k-path = read-term f >>= λ a. read-term f >>= λ b. read-term f >>= λ c. ok (Path a b c)
 term-of f k-plam = read-term f >>= λ a. read-term f >>= λ b. ok (PathLam a b)
-term-of f k-papp = read-term f >>= λ a. read-interval f >>= λ r. ok (PathApp a r)
+term-of f k-papp = read-term f >>= λ a. read-interval f >>= λ b. ok (PathApp a b)
+
+-- end of reader of a term
 
 pub record NodeAt {A K : Type 0} (table : List (Option K)) (m : K → Reader A) (bytes : List ℕ) (at : ℕ) (a : A) (rest : List ℕ) (end : ℕ) : Type 0 where
   pub inside : at < length bytes
@@ -54,14 +60,36 @@ a-node {A} {K} table m bytes at {a} {rest} {end} e = go (decLt at (length bytes)
 
 interval-read : (f : ℕ) (bs : List ℕ) (at : ℕ) → read-interval (suc f) bs at ≡ read-on (one-of ikinds bs at) (interval-of f)
 unfolding read-interval _>>=_ interval-of
-interval-read f bs at = ap (read-on (one-of ikinds bs at)) (fun-ext (λ k. elim k [ k-0 ↦ refl | k-1 ↦ refl | k-dim ↦ refl | k-neg ↦ refl | k-meet ↦ refl | k-join ↦ refl ]))
+interval-read f bs at = ap (read-on (one-of ikinds bs at)) (fun-ext (λ k. elim k [
+  -- written by tools/written.py: kinds of an interval
+  | k-0 ↦ refl
+  | k-1 ↦ refl
+  | k-dim ↦ refl
+  | k-neg ↦ refl
+  | k-meet ↦ refl
+  | k-join ↦ refl
+  -- end of kinds of an interval
+]))
 
 pub interval-node : (f : ℕ) (bytes : List ℕ) (at : ℕ) {a : Interval} {rest : List ℕ} {end : ℕ} → read-interval (suc f) (drop at bytes) at ≡ got a rest end → NodeAt ikinds (interval-of f) bytes at a rest end
 interval-node f bytes at e = a-node ikinds (interval-of f) bytes at (sym (interval-read f (drop at bytes) at) ∙ e)
 
 term-read : (f : ℕ) (bs : List ℕ) (at : ℕ) → read-term (suc f) bs at ≡ read-on (one-of kinds bs at) (term-of f)
 unfolding read-term _>>=_ term-of
-term-read f bs at = ap (read-on (one-of kinds bs at)) (fun-ext (λ k. elim k [ k-u ↦ refl | k-v ↦ refl | k-nat ↦ refl | k-zero ↦ refl | k-pi ↦ refl | k-lam ↦ refl | k-app ↦ refl | k-path ↦ refl | k-plam ↦ refl | k-papp ↦ refl ]))
+term-read f bs at = ap (read-on (one-of kinds bs at)) (fun-ext (λ k. elim k [
+  -- written by tools/written.py: kinds of a term
+  | k-u ↦ refl
+  | k-v ↦ refl
+  | k-nat ↦ refl
+  | k-zero ↦ refl
+  | k-pi ↦ refl
+  | k-lam ↦ refl
+  | k-app ↦ refl
+  | k-path ↦ refl
+  | k-plam ↦ refl
+  | k-papp ↦ refl
+  -- end of kinds of a term
+]))
 
 pub term-node : (f : ℕ) (bytes : List ℕ) (at : ℕ) {t : Term} {rest : List ℕ} {end : ℕ} → read-term (suc f) (drop at bytes) at ≡ got t rest end → NodeAt kinds (term-of f) bytes at t rest end
 term-node f bytes at e = a-node kinds (term-of f) bytes at (sym (term-read f (drop at bytes) at) ∙ e)

@@ -18,6 +18,7 @@ pub data Part : Type 0 where
   index term interval : Part
 
 abbrev pub parts : Kind → List Part
+-- written by tools/written.py: parts of a term kind
 parts k-u = index ∷ []
 parts k-v = index ∷ []
 parts k-nat = []
@@ -29,13 +30,18 @@ parts k-path = term ∷ term ∷ term ∷ []
 parts k-plam = term ∷ term ∷ []
 parts k-papp = term ∷ interval ∷ []
 
+-- end of parts of a term kind
+
 abbrev pub iparts : IKind → List Part
+-- written by tools/written.py: parts of an interval kind
 iparts k-0 = []
 iparts k-1 = []
 iparts k-dim = index ∷ []
 iparts k-neg = interval ∷ []
 iparts k-meet = interval ∷ interval ∷ []
 iparts k-join = interval ∷ interval ∷ []
+
+-- end of parts of an interval kind
 
 unfoldable pub of-kind : {K : Type 0} → (K → List Part) → Option K → Option (List Part)
 of-kind f none = none

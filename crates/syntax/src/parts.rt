@@ -80,11 +80,18 @@ fn of_term(kind: u8) -> Parts
     ensures { λ r. ⌜ Lists (of-kind term-parts (getD kinds kind nothing)) r ⌝ }
 {
     match kind {
-        1 | 2 => one(INDEX),
-        3 | 4 => none(),
-        5 | 6 | 7 | 9 => two(TERM, TERM),
+        // written by tools/written.py: parts of a term
+        1 => one(INDEX),
+        2 => one(INDEX),
+        3 => none(),
+        4 => none(),
+        5 => two(TERM, TERM),
+        6 => two(TERM, TERM),
+        7 => two(TERM, TERM),
         8 => three(TERM, TERM, TERM),
+        9 => two(TERM, TERM),
         10 => two(TERM, INTERVAL),
+        // end of parts of a term
         _ => refused(),
     }
 }
@@ -93,10 +100,14 @@ fn of_interval(kind: u8) -> Parts
     ensures { λ r. ⌜ Lists (of-kind iparts (getD ikinds kind nothing)) r ⌝ }
 {
     match kind {
-        16 | 17 => none(),
+        // written by tools/written.py: parts of an interval
+        16 => none(),
+        17 => none(),
         18 => one(INDEX),
         19 => one(INTERVAL),
-        20 | 21 => two(INTERVAL, INTERVAL),
+        20 => two(INTERVAL, INTERVAL),
+        21 => two(INTERVAL, INTERVAL),
+        // end of parts of an interval
         _ => refused(),
     }
 }

@@ -5,10 +5,11 @@ use Prim.Native.Nat.{ℕ, zero, suc, _+_, min}
 use native.Mathlib.Nat.{min-eq-right}
 use lib.ListN.{length}
 use Rattle.walk.specs.Syntax.{Interval, Quote, Quotes}
-use Rattle.walk.specs.Judgment.{Judgment, ctx, dshiftctx, lookup, lt, le, max, interval, ishift, isubst, shift, subst, dshift, dsubst, has, eq, Argument, arguments}
+use Rattle.walk.specs.Rule.{kind-of}
+use Rattle.walk.specs.Judgment.{Judgment, kind, ctx, dshiftctx, lookup, lt, le, max, interval, ishift, isubst, shift, subst, dshift, dsubst, has, eq, Argument, arguments}
 use Rattle.rules.specs.Names.{bytes, judgment-name, node-name}
-use Rattle.rules.specs.Kinds.{sorts-of, sort-of, parts-of, part-of, kind-of}
-use Rattle.rules.specs.Concludes.{kind, sort}
+use Rattle.rules.specs.Kinds.{sorts-of, sort-of, parts-of, part-of}
+use Rattle.rules.specs.Concludes.{sort}
 use Rattle.text.specs.Text.{Text, decimal, cell-word, argument, node-as, lower, quote, judgment-as, each, reference, some-refs, refs}
 use Rattle.text.specs.Listing.{call-row, result, call-result, call-head, call-line, row-head, row-line}
 use Rattle.walk.specs.State.{Row}
@@ -35,25 +36,31 @@ part-said {C} {i} {w} {j} t p e = rw (p .word, lower-yes i j (quote C) (p .lower
 
 pub interval-said : {C : List ℕ} {i : ℕ} {r : Interval} → Interval-cell C i r → quote C i ≡ interval-text r
 unfolding node-name parts-of part-of argument node-as interval-text
+-- written by tools/written.py: text of an interval
 interval-said (cell-0 k) = rw (quote-node, k)
 interval-said (cell-1 k) = rw (quote-node, k)
 interval-said (cell-dim {n = n} k e) = rw (quote-node, k, e) (close-2 (spaced (bytes "(dim") (decimal n ∷ [])))
-interval-said (cell-neg {r = r} k p h) = rw (quote-node, k, part-said _ p (interval-said h)) (close-2 (spaced (bytes "(neg") (interval-text r ∷ [])))
-interval-said (cell-meet {r = r} {s = s} k p h q l) = rw (quote-node, k, part-said _ p (interval-said h), part-said _ q (interval-said l)) (close-1 (spaced (bytes "(meet") (interval-text r ∷ interval-text s ∷ [])))
-interval-said (cell-join {r = r} {s = s} k p h q l) = rw (quote-node, k, part-said _ p (interval-said h), part-said _ q (interval-said l)) (close-1 (spaced (bytes "(join") (interval-text r ∷ interval-text s ∷ [])))
+interval-said (cell-neg {x = x} k p1 h1) = rw (quote-node, k, part-said _ p1 (interval-said h1)) (close-2 (spaced (bytes "(neg") (interval-text x ∷ [])))
+interval-said (cell-meet {x = x} {y = y} k p1 h1 p2 h2) = rw (quote-node, k, part-said _ p1 (interval-said h1), part-said _ p2 (interval-said h2)) (close-1 (spaced (bytes "(meet") (interval-text x ∷ interval-text y ∷ [])))
+interval-said (cell-join {x = x} {y = y} k p1 h1 p2 h2) = rw (quote-node, k, part-said _ p1 (interval-said h1), part-said _ p2 (interval-said h2)) (close-1 (spaced (bytes "(join") (interval-text x ∷ interval-text y ∷ [])))
+
+-- end of text of an interval
 
 pub quote-said : {C : List ℕ} {i : ℕ} {t : Quote} → Quote-cell C i t → quote C i ≡ quote-text t
 unfolding node-name parts-of part-of argument node-as quote-text
+-- written by tools/written.py: text of a quote
 quote-said (cell-u {n = n} k e) = rw (quote-node, k, e) (close-2 (spaced (bytes "(u") (decimal n ∷ [])))
 quote-said (cell-v {n = n} k e) = rw (quote-node, k, e) (close-2 (spaced (bytes "(v") (decimal n ∷ [])))
 quote-said (cell-nat k) = rw (quote-node, k)
 quote-said (cell-zero k) = rw (quote-node, k)
-quote-said (cell-pi {s = s} {t = t} k p h q l) = rw (quote-node, k, part-said _ p (quote-said h), part-said _ q (quote-said l)) (close-1 (spaced (bytes "(pi") (quote-text s ∷ quote-text t ∷ [])))
-quote-said (cell-lam {t = t} k p h) = rw (quote-node, k, part-said _ p (quote-said h)) (close-2 (spaced (bytes "(lam") (quote-text t ∷ [])))
-quote-said (cell-app {s = s} {t = t} k p h q l) = rw (quote-node, k, part-said _ p (quote-said h), part-said _ q (quote-said l)) (close-1 (spaced (bytes "(app") (quote-text s ∷ quote-text t ∷ [])))
-quote-said (cell-path k p h q l r m) = rw (quote-node, k, part-said _ p (quote-said h), part-said _ q (quote-said l), part-said _ r (quote-said m))
-quote-said (cell-plam {t = t} k p h) = rw (quote-node, k, part-said _ p (quote-said h)) (close-2 (spaced (bytes "(plam") (quote-text t ∷ [])))
-quote-said (cell-papp {t = t} {r = r} k p h q l) = rw (quote-node, k, part-said _ p (quote-said h), part-said _ q (interval-said l)) (close-1 (spaced (bytes "(papp") (quote-text t ∷ interval-text r ∷ [])))
+quote-said (cell-pi {x = x} {y = y} k p1 h1 p2 h2) = rw (quote-node, k, part-said _ p1 (quote-said h1), part-said _ p2 (quote-said h2)) (close-1 (spaced (bytes "(pi") (quote-text x ∷ quote-text y ∷ [])))
+quote-said (cell-lam {y = y} k p2 h2) = rw (quote-node, k, part-said _ p2 (quote-said h2)) (close-2 (spaced (bytes "(lam") (quote-text y ∷ [])))
+quote-said (cell-app {x = x} {y = y} k p1 h1 p2 h2) = rw (quote-node, k, part-said _ p1 (quote-said h1), part-said _ p2 (quote-said h2)) (close-1 (spaced (bytes "(app") (quote-text x ∷ quote-text y ∷ [])))
+quote-said (cell-path {x = x} {y = y} {z = z} k p1 h1 p2 h2 p3 h3) = rw (quote-node, k, part-said _ p1 (quote-said h1), part-said _ p2 (quote-said h2), part-said _ p3 (quote-said h3))
+quote-said (cell-plam {y = y} k p2 h2) = rw (quote-node, k, part-said _ p2 (quote-said h2)) (close-2 (spaced (bytes "(plam") (quote-text y ∷ [])))
+quote-said (cell-papp {x = x} {y = y} k p1 h1 p2 h2) = rw (quote-node, k, part-said _ p1 (quote-said h1), part-said _ p2 (interval-said h2)) (close-1 (spaced (bytes "(papp") (quote-text x ∷ interval-text y ∷ [])))
+
+-- end of text of a quote
 
 pub context-said : {C : List ℕ} {i : ℕ} {g : Quotes} → Context-cell C i g → quote C i ≡ context-text g
 unfolding node-name parts-of part-of argument node-as context-text
@@ -71,8 +78,9 @@ argument-said (word-context h) = rw (context-said h)
 -- A row's judgment, where the row holds its arguments.
 pub judgment-said : {R C : List ℕ} {i : ℕ} (j : Judgment) → Arguments-in R C i 0 (arguments j) → judgment-as (kind j) R C i ≡ judgment-text j
 unfolding sorts-of sort-of argument judgment-as judgment-text
+-- written by tools/written.py: text of a judgment
 judgment-said (ctx d g) (and-then h0 (and-then h1 no-more)) = rw (argument-said h0, argument-said h1) (close-3 (spaced (bytes "(" ++ judgment-name 0) (all-texts (arguments (ctx d g)))))
-judgment-said (dshiftctx g k g′) (and-then h0 (and-then h1 (and-then h2 no-more))) = rw (argument-said h0, argument-said h1, argument-said h2) (close-2 (spaced (bytes "(" ++ judgment-name 1) (all-texts (arguments (dshiftctx g k g′)))))
+judgment-said (dshiftctx g k h) (and-then h0 (and-then h1 (and-then h2 no-more))) = rw (argument-said h0, argument-said h1, argument-said h2) (close-2 (spaced (bytes "(" ++ judgment-name 1) (all-texts (arguments (dshiftctx g k h)))))
 judgment-said (lookup g n A) (and-then h0 (and-then h1 (and-then h2 no-more))) = rw (argument-said h0, argument-said h1, argument-said h2) (close-2 (spaced (bytes "(" ++ judgment-name 2) (all-texts (arguments (lookup g n A)))))
 judgment-said (lt m n) (and-then h0 (and-then h1 no-more)) = rw (argument-said h0, argument-said h1) (close-3 (spaced (bytes "(" ++ judgment-name 3) (all-texts (arguments (lt m n)))))
 judgment-said (le m n) (and-then h0 (and-then h1 no-more)) = rw (argument-said h0, argument-said h1) (close-3 (spaced (bytes "(" ++ judgment-name 4) (all-texts (arguments (le m n)))))
@@ -86,6 +94,8 @@ judgment-said (dshift t k t′) (and-then h0 (and-then h1 (and-then h2 no-more))
 judgment-said (dsubst t k r t′) (and-then h0 (and-then h1 (and-then h2 (and-then h3 no-more)))) = rw (argument-said h0, argument-said h1, argument-said h2, argument-said h3) (close-1 (spaced (bytes "(" ++ judgment-name 12) (all-texts (arguments (dsubst t k r t′)))))
 judgment-said (has d g t A) (and-then h0 (and-then h1 (and-then h2 (and-then h3 no-more)))) = rw (argument-said h0, argument-said h1, argument-said h2, argument-said h3) (close-1 (spaced (bytes "(" ++ judgment-name 13) (all-texts (arguments (has d g t A)))))
 judgment-said (eq d g a b A) (and-then h0 (and-then h1 (and-then h2 (and-then h3 (and-then h4 no-more))))) = rw (argument-said h0, argument-said h1, argument-said h2, argument-said h3, argument-said h4)
+
+-- end of text of a judgment
 
 -- The rows that a row cites.
 commas-said : {R : List ℕ} {i : ℕ} {k : ℕ} {ns : List ℕ} → Refs-in R i k ns → each (reference R i) k (length ns) ≡ commas ns

@@ -3,8 +3,9 @@ use Prim.Native.Nat.{ℕ}
 use mathlib.Core.Path.{_≡_, refl}
 use mathlib.Core.List.{List, [], _∷_, _++_}
 use lib.ListN.{replicate}
+use Rattle.walk.specs.Rule.{kind-of}
 use Rattle.rules.specs.Names.{bytes, rule-name, judgment-name, node-name}
-use Rattle.rules.specs.Kinds.{sorts-of, sort-of, parts-of, part-of, kind-of}
+use Rattle.rules.specs.Kinds.{sorts-of, sort-of, parts-of, part-of}
 use Rattle.text.specs.Text.{each, digits, decimal, argument, node-as, lower, quote-within, quote, some-refs, refs, judgment-as}
 use Rattle.text.specs.Repeats.{with-call, accepted, same, occurs, repeats-after, repeats}
 use Rattle.text.specs.Listing.{call-row, result, call-result, call-head, call-line, row-head, row-line, totals, read-listing, refused-listing, listing}

@@ -4,7 +4,7 @@ use Prim.Native.Nat.{ℕ, suc, _+_, _<_, _≤_}
 use mathlib.Core.Path.{_≡_}
 use mathlib.Core.List.{List, [], _∷_, _++_}
 use Rattle.walk.specs.Syntax.{Term, quote, Interval, I0, I1, Dim, Neg, Meet, Join, Quote, u, v, nat, zero, pi, lam, app, path, plam, papp, Quotes, nil, cons}
-use Rattle.walk.specs.Judgment.{Judgment, Argument, arguments}
+use Rattle.walk.specs.Judgment.{Judgment, kind, Argument, arguments}
 use Rattle.walk.specs.Judgment as J
 use Rattle.walk.specs.State.{Row}
 use Rattle.walk.specs.Reader.{Call, Code, c-context, c-universe, c-infer, c-check, c-normalise, c-equal}
@@ -13,7 +13,6 @@ use mathlib.Core.Bool.{true, false}
 use lib.Dec.{eqb}
 use lib.ListN.{length}
 use Rattle.rules.specs.Names.{bytes, rule-name, judgment-name}
-use Rattle.rules.specs.Concludes.{kind}
 use Rattle.text.specs.Text.{Text, decimal, cell-word, row-word}
 use Rattle.text.specs.Repeats.{answer-word, code}
 
@@ -26,24 +25,30 @@ abbrev pub called : Text → List Text → Text
 called name ts = spaced (bytes "(" ++ name) ts ++ bytes ")"
 
 unfoldable pub interval-text : Interval → Text
+-- written by tools/written.py: text of an interval
 interval-text I0 = bytes "i0"
 interval-text I1 = bytes "i1"
 interval-text (Dim n) = called (bytes "dim") (decimal n ∷ [])
-interval-text (Neg r) = called (bytes "neg") (interval-text r ∷ [])
-interval-text (Meet r s) = called (bytes "meet") (interval-text r ∷ interval-text s ∷ [])
-interval-text (Join r s) = called (bytes "join") (interval-text r ∷ interval-text s ∷ [])
+interval-text (Neg x) = called (bytes "neg") (interval-text x ∷ [])
+interval-text (Meet x y) = called (bytes "meet") (interval-text x ∷ interval-text y ∷ [])
+interval-text (Join x y) = called (bytes "join") (interval-text x ∷ interval-text y ∷ [])
+
+-- end of text of an interval
 
 unfoldable pub quote-text : Quote → Text
+-- written by tools/written.py: text of a quote
 quote-text (u n) = called (bytes "u") (decimal n ∷ [])
 quote-text (v n) = called (bytes "v") (decimal n ∷ [])
 quote-text nat = bytes "nat"
 quote-text zero = bytes "zero"
-quote-text (pi a b) = called (bytes "pi") (quote-text a ∷ quote-text b ∷ [])
-quote-text (lam b) = called (bytes "lam") (quote-text b ∷ [])
-quote-text (app f a) = called (bytes "app") (quote-text f ∷ quote-text a ∷ [])
-quote-text (path a b c) = called (bytes "path") (quote-text a ∷ quote-text b ∷ quote-text c ∷ [])
-quote-text (plam b) = called (bytes "plam") (quote-text b ∷ [])
-quote-text (papp p r) = called (bytes "papp") (quote-text p ∷ interval-text r ∷ [])
+quote-text (pi x y) = called (bytes "pi") (quote-text x ∷ quote-text y ∷ [])
+quote-text (lam y) = called (bytes "lam") (quote-text y ∷ [])
+quote-text (app x y) = called (bytes "app") (quote-text x ∷ quote-text y ∷ [])
+quote-text (path x y z) = called (bytes "path") (quote-text x ∷ quote-text y ∷ quote-text z ∷ [])
+quote-text (plam y) = called (bytes "plam") (quote-text y ∷ [])
+quote-text (papp x y) = called (bytes "papp") (quote-text x ∷ interval-text y ∷ [])
+
+-- end of text of a quote
 
 -- A context as (cons last rest).
 unfoldable pub context-text : Quotes → Text
@@ -70,24 +75,28 @@ pub record Part-in (C : List ℕ) (i w j : ℕ) : Type 0 where
 
 -- Cell i has the quote: its kind, and its parts in lower cells. The annotations of lam and plam may be anything.
 pub data Interval-cell (C : List ℕ) : ℕ → Interval → Type 0 where
+  -- written by tools/written.py: cell of an interval
   cell-0 : {i : ℕ} → cell-word C i 0 ≡ 16 → Interval-cell C i I0
   cell-1 : {i : ℕ} → cell-word C i 0 ≡ 17 → Interval-cell C i I1
   cell-dim : {i n : ℕ} → cell-word C i 0 ≡ 18 → cell-word C i 1 ≡ n → Interval-cell C i (Dim n)
-  cell-neg : {i a : ℕ} {r : Interval} → cell-word C i 0 ≡ 19 → Part-in C i 1 a → Interval-cell C a r → Interval-cell C i (Neg r)
-  cell-meet : {i a b : ℕ} {r s : Interval} → cell-word C i 0 ≡ 20 → Part-in C i 1 a → Interval-cell C a r → Part-in C i 2 b → Interval-cell C b s → Interval-cell C i (Meet r s)
-  cell-join : {i a b : ℕ} {r s : Interval} → cell-word C i 0 ≡ 21 → Part-in C i 1 a → Interval-cell C a r → Part-in C i 2 b → Interval-cell C b s → Interval-cell C i (Join r s)
+  cell-neg : {i a : ℕ} {x : Interval} → cell-word C i 0 ≡ 19 → Part-in C i 1 a → Interval-cell C a x → Interval-cell C i (Neg x)
+  cell-meet : {i a b : ℕ} {x : Interval} {y : Interval} → cell-word C i 0 ≡ 20 → Part-in C i 1 a → Interval-cell C a x → Part-in C i 2 b → Interval-cell C b y → Interval-cell C i (Meet x y)
+  cell-join : {i a b : ℕ} {x : Interval} {y : Interval} → cell-word C i 0 ≡ 21 → Part-in C i 1 a → Interval-cell C a x → Part-in C i 2 b → Interval-cell C b y → Interval-cell C i (Join x y)
+  -- end of cell of an interval
 
 pub data Quote-cell (C : List ℕ) : ℕ → Quote → Type 0 where
+  -- written by tools/written.py: cell of a quote
   cell-u : {i n : ℕ} → cell-word C i 0 ≡ 1 → cell-word C i 1 ≡ n → Quote-cell C i (u n)
   cell-v : {i n : ℕ} → cell-word C i 0 ≡ 2 → cell-word C i 1 ≡ n → Quote-cell C i (v n)
   cell-nat : {i : ℕ} → cell-word C i 0 ≡ 3 → Quote-cell C i nat
   cell-zero : {i : ℕ} → cell-word C i 0 ≡ 4 → Quote-cell C i zero
-  cell-pi : {i a b : ℕ} {s t : Quote} → cell-word C i 0 ≡ 5 → Part-in C i 1 a → Quote-cell C a s → Part-in C i 2 b → Quote-cell C b t → Quote-cell C i (pi s t)
-  cell-lam : {i b : ℕ} {t : Quote} → cell-word C i 0 ≡ 6 → Part-in C i 2 b → Quote-cell C b t → Quote-cell C i (lam t)
-  cell-app : {i a b : ℕ} {s t : Quote} → cell-word C i 0 ≡ 7 → Part-in C i 1 a → Quote-cell C a s → Part-in C i 2 b → Quote-cell C b t → Quote-cell C i (app s t)
-  cell-path : {i a b c : ℕ} {s t q : Quote} → cell-word C i 0 ≡ 8 → Part-in C i 1 a → Quote-cell C a s → Part-in C i 2 b → Quote-cell C b t → Part-in C i 3 c → Quote-cell C c q → Quote-cell C i (path s t q)
-  cell-plam : {i b : ℕ} {t : Quote} → cell-word C i 0 ≡ 9 → Part-in C i 2 b → Quote-cell C b t → Quote-cell C i (plam t)
-  cell-papp : {i a b : ℕ} {t : Quote} {r : Interval} → cell-word C i 0 ≡ 10 → Part-in C i 1 a → Quote-cell C a t → Part-in C i 2 b → Interval-cell C b r → Quote-cell C i (papp t r)
+  cell-pi : {i a b : ℕ} {x : Quote} {y : Quote} → cell-word C i 0 ≡ 5 → Part-in C i 1 a → Quote-cell C a x → Part-in C i 2 b → Quote-cell C b y → Quote-cell C i (pi x y)
+  cell-lam : {i b : ℕ} {y : Quote} → cell-word C i 0 ≡ 6 → Part-in C i 2 b → Quote-cell C b y → Quote-cell C i (lam y)
+  cell-app : {i a b : ℕ} {x : Quote} {y : Quote} → cell-word C i 0 ≡ 7 → Part-in C i 1 a → Quote-cell C a x → Part-in C i 2 b → Quote-cell C b y → Quote-cell C i (app x y)
+  cell-path : {i a b c : ℕ} {x : Quote} {y : Quote} {z : Quote} → cell-word C i 0 ≡ 8 → Part-in C i 1 a → Quote-cell C a x → Part-in C i 2 b → Quote-cell C b y → Part-in C i 3 c → Quote-cell C c z → Quote-cell C i (path x y z)
+  cell-plam : {i b : ℕ} {y : Quote} → cell-word C i 0 ≡ 9 → Part-in C i 2 b → Quote-cell C b y → Quote-cell C i (plam y)
+  cell-papp : {i a b : ℕ} {x : Quote} {y : Interval} → cell-word C i 0 ≡ 10 → Part-in C i 1 a → Quote-cell C a x → Part-in C i 2 b → Interval-cell C b y → Quote-cell C i (papp x y)
+  -- end of cell of a quote
 
 pub data Context-cell (C : List ℕ) : ℕ → Quotes → Type 0 where
   cell-nil : {i : ℕ} → cell-word C i 0 ≡ 32 → Context-cell C i nil

@@ -5,8 +5,9 @@ use mathlib.Core.Bool.{true, false}
 use mathlib.Core.List.{List, [], _∷_, _++_}
 use lib.Dec.{ltb, eqb}
 use lib.ListN.{getD}
+use Rattle.walk.specs.Rule.{kind-of}
 use Rattle.rules.specs.Names.{bytes, rule-name, judgment-name, node-name}
-use Rattle.rules.specs.Kinds.{absent, number, sort-of, part-of, kind-of}
+use Rattle.rules.specs.Kinds.{absent, number, sort-of, part-of}
 
 -- A text is its bytes.
 abbrev pub Text : Type 0

@@ -13,5 +13,6 @@ pub mod Run
 pub mod Demand
 pub mod Sound
 pub mod Calls
+pub mod Concludes
 pub mod Opened
 pub mod Examples

@@ -28,6 +28,7 @@ node depth nodes index =
 
 -- In prefix order, from the depth of the whole and the nodes before it.
 unfoldable pub size-interval : Interval → ℕ → ℕ → Sized
+-- written by tools/written.py: size of an interval
 size-interval I0 depth nodes = node depth nodes 0
 size-interval I1 depth nodes = node depth nodes 0
 size-interval (Dim n) depth nodes = node depth nodes n
@@ -35,8 +36,11 @@ size-interval (Neg a) depth nodes = size-on (node depth nodes 0) (size-interval 
 size-interval (Meet a b) depth nodes = size-on (node depth nodes 0) λ n. size-on (size-interval a (depth + 1) n) (size-interval b (depth + 1))
 size-interval (Join a b) depth nodes = size-on (node depth nodes 0) λ n. size-on (size-interval a (depth + 1) n) (size-interval b (depth + 1))
 
+-- end of size of an interval
+
 unfoldable pub size-term : Term → ℕ → ℕ → Sized
-size-term (Universe l) depth nodes = node depth nodes l
+-- written by tools/written.py: size of a term
+size-term (Universe n) depth nodes = node depth nodes n
 size-term (Var n) depth nodes = node depth nodes n
 size-term Nat depth nodes = node depth nodes 0
 size-term Zero depth nodes = node depth nodes 0
@@ -45,7 +49,9 @@ size-term (Lam a b) depth nodes = size-on (node depth nodes 0) λ n. size-on (si
 size-term (App a b) depth nodes = size-on (node depth nodes 0) λ n. size-on (size-term a (depth + 1) n) (size-term b (depth + 1))
 size-term (Path a b c) depth nodes = size-on (node depth nodes 0) λ n. size-on (size-term a (depth + 1) n) λ n. size-on (size-term b (depth + 1) n) (size-term c (depth + 1))
 size-term (PathLam a b) depth nodes = size-on (node depth nodes 0) λ n. size-on (size-term a (depth + 1) n) (size-term b (depth + 1))
-size-term (PathApp a r) depth nodes = size-on (node depth nodes 0) λ n. size-on (size-term a (depth + 1) n) (size-interval r (depth + 1))
+size-term (PathApp a b) depth nodes = size-on (node depth nodes 0) λ n. size-on (size-term a (depth + 1) n) (size-interval b (depth + 1))
+
+-- end of size of a term
 
 unfoldable pub size-terms : List Term → ℕ → Sized
 size-terms [] nodes = fits nodes

@@ -40,6 +40,8 @@ unfoldable pub one-of : {A : Type 0} → List (Option A) → Reader A
 one-of table [] at = bad at
 one-of table (b ∷ bs) at = meant (getD table b none) bs at
 
+-- Kinds of terms and of intervals, and a table of each: a kind stands at its byte.
+-- written by tools/written.py: kinds
 pub data Kind : Type 0 where
   k-u k-v k-nat k-zero k-pi k-lam k-app k-path k-plam k-papp : Kind
   deriving Discrete as Kind-discrete
@@ -47,16 +49,19 @@ pub data Kind : Type 0 where
 pub data IKind : Type 0 where
   k-0 k-1 k-dim k-neg k-meet k-join : IKind
 
-pub data Code : Type 0 where
-  c-context c-universe c-infer c-check c-normalise c-equal : Code
-  deriving Discrete as Code-discrete
-
--- Kinds of terms are 1 to 10, of intervals 16 to 21, codes of calls 0 to 5.
 abbrev pub kinds : List (Option Kind)
 kinds = none ∷ some k-u ∷ some k-v ∷ some k-nat ∷ some k-zero ∷ some k-pi ∷ some k-lam ∷ some k-app ∷ some k-path ∷ some k-plam ∷ some k-papp ∷ []
 
 abbrev pub ikinds : List (Option IKind)
 ikinds = replicate 16 none ++ some k-0 ∷ some k-1 ∷ some k-dim ∷ some k-neg ∷ some k-meet ∷ some k-join ∷ []
+
+-- end of kinds
+
+-- The codes of calls, with the number of terms that follow each.
+-- written by tools/written.py: calls
+pub data Code : Type 0 where
+  c-context c-universe c-infer c-check c-normalise c-equal : Code
+  deriving Discrete as Code-discrete
 
 abbrev pub codes : List (Option Code)
 codes = some c-context ∷ some c-universe ∷ some c-infer ∷ some c-check ∷ some c-normalise ∷ some c-equal ∷ []
@@ -69,22 +74,27 @@ terms-of c-check = 2
 terms-of c-normalise = 2
 terms-of c-equal = 3
 
+-- end of calls
+
 -- In prefix order. The first argument only bounds the depth, so that the definition ends: a node takes a byte, so as many
 -- as there are bytes are enough.
 unfoldable pub read-interval : ℕ → Reader Interval
 read-interval ℕ.zero = λ bs at. bad at
 read-interval (ℕ.suc f) = one-of ikinds >>= λ k. elim k [
+  -- written by tools/written.py: reading an interval
   | k-0 ↦ ok I0
   | k-1 ↦ ok I1
   | k-dim ↦ byte >>= λ n. ok (Dim n)
   | k-neg ↦ read-interval f >>= λ a. ok (Neg a)
   | k-meet ↦ read-interval f >>= λ a. read-interval f >>= λ b. ok (Meet a b)
   | k-join ↦ read-interval f >>= λ a. read-interval f >>= λ b. ok (Join a b)
+  -- end of reading an interval
 ]
 
 unfoldable pub read-term : ℕ → Reader Term
 read-term ℕ.zero = λ bs at. bad at
 read-term (ℕ.suc f) = one-of kinds >>= λ k. elim k [
+  -- written by tools/written.py: reading a term
   | k-u ↦ byte >>= λ n. ok (Universe n)
   | k-v ↦ byte >>= λ n. ok (Var n)
   | k-nat ↦ ok Nat
@@ -94,7 +104,8 @@ read-term (ℕ.suc f) = one-of kinds >>= λ k. elim k [
   | k-app ↦ read-term f >>= λ a. read-term f >>= λ b. ok (App a b)
   | k-path ↦ read-term f >>= λ a. read-term f >>= λ b. read-term f >>= λ c. ok (Path a b c)
   | k-plam ↦ read-term f >>= λ a. read-term f >>= λ b. ok (PathLam a b)
-  | k-papp ↦ read-term f >>= λ a. read-interval f >>= λ r. ok (PathApp a r)
+  | k-papp ↦ read-term f >>= λ a. read-interval f >>= λ b. ok (PathApp a b)
+  -- end of reading a term
 ]
 
 unfoldable pub read-terms : ℕ → ℕ → Reader (List Term)

@@ -1,5 +1,5 @@
--- The refusals: a name for each number, with what it says. 1 to 4 refuse a whole run, 5 to 20 a call. 0 is no refusal: what has this
--- number is accepted.
+-- The refusals: a name for each number. 0 is no refusal: what has this number is accepted.
+-- Written by tools/written.py from tools/language.py; `python3 tools/written.py` makes it again.
 use Prim.Native.Nat.{ℕ}
 
 -- of a run
@@ -8,11 +8,11 @@ use Prim.Native.Nat.{ℕ}
 abbrev pub slices : ℕ
 slices = 1
 
--- over 65,536 bytes
+-- it has over 65,536 bytes
 abbrev pub bytes : ℕ
 bytes = 2
 
--- the bytes are no run
+-- it ends early; or its nesting limit is outside 1 to 4,096; or a byte is no code or kind for its spot
 abbrev pub unread : ℕ
 unread = 3
 
@@ -26,7 +26,7 @@ answers = 4
 abbrev pub scope : ℕ
 scope = 5
 
--- the depth passes 32, or the nodes of the call pass 10,000
+-- the depth passes 32 (the outermost node is at 0), or the nodes of the call pass 10,000
 abbrev pub size : ℕ
 size = 6
 
@@ -76,7 +76,7 @@ conversions = 16
 abbrev pub dimension : ℕ
 dimension = 17
 
--- a new row is needed and none is left
+-- a new row is needed, and 50,000, or all that the table holds, are used
 abbrev pub rows : ℕ
 rows = 18
 
@@ -84,6 +84,6 @@ rows = 18
 abbrev pub nesting : ℕ
 nesting = 19
 
--- a new cell is needed and none is left
+-- a new cell is needed, and none is left, or 4,294,967,295 are used
 abbrev pub cells : ℕ
 cells = 20

@@ -1,8 +1,10 @@
--- The numbers of the 95 rules, in the order of docs/FORMAT.md, and their names: `eq·p1` is its eq.p1.
+-- The rules by number, in the order of docs/FORMAT.md: `eq·p1` is its eq.p1; with their names and what each concludes.
+-- Written by tools/written.py from tools/language.py; `python3 tools/written.py` makes it again.
 use Prim.Native.Nat.{ℕ, suc}
 use Prim.Native.String.{String}
 use mathlib.Core.Path.{_≡_, refl}
 use mathlib.Core.List.{List, [], _∷_}
+use lib.ListN.{getD}
 
 abbrev pub ctx·nil : ℕ
 ctx·nil = 0
@@ -289,113 +291,171 @@ eq·p0 = 93
 abbrev pub eq·p1 : ℕ
 eq·p1 = 94
 
--- Every rule with its name, as the listing prints it.
+-- The judgments by number, as Judgment's `kind` has them.
+abbrev ctx : ℕ
+ctx = 0
+
+abbrev dshiftctx : ℕ
+dshiftctx = 1
+
+abbrev lookup : ℕ
+lookup = 2
+
+abbrev lt : ℕ
+lt = 3
+
+abbrev le : ℕ
+le = 4
+
+abbrev max : ℕ
+max = 5
+
+abbrev interval : ℕ
+interval = 6
+
+abbrev ishift : ℕ
+ishift = 7
+
+abbrev isubst : ℕ
+isubst = 8
+
+abbrev shift : ℕ
+shift = 9
+
+abbrev subst : ℕ
+subst = 10
+
+abbrev dshift : ℕ
+dshift = 11
+
+abbrev dsubst : ℕ
+dsubst = 12
+
+abbrev has : ℕ
+has = 13
+
+abbrev eq : ℕ
+eq = 14
+
+-- Every rule with its name, as the listing prints it, and the kind of judgment that it concludes (proved in Concludes).
 pub record Named : Type 0 where
   pub number : ℕ
   pub name : String
+  pub kind : ℕ
 
-infix 50 _named_
-abbrev _named_ : ℕ → String → Named
-_named_ n s = record { number = n; name = s }
+infix 50 _named_concludes_
+abbrev _named_concludes_ : ℕ → String → ℕ → Named
+_named_concludes_ n s k = record { number = n; name = s; kind = k }
 
 abbrev pub rules : List Named
 rules =
-    (ctx·nil named "ctx.nil") ∷
-    (ctx·cons named "ctx.cons") ∷
-    (dshiftctx·nil named "dshiftctx.nil") ∷
-    (dshiftctx·cons named "dshiftctx.cons") ∷
-    (lookup·z named "lookup.z") ∷
-    (lookup·s named "lookup.s") ∷
-    (lt·z named "lt.z") ∷
-    (lt·s named "lt.s") ∷
-    (le·z named "le.z") ∷
-    (le·s named "le.s") ∷
-    (max·z named "max.z") ∷
-    (max·sz named "max.sz") ∷
-    (max·ss named "max.ss") ∷
-    (interval·0 named "interval.0") ∷
-    (interval·1 named "interval.1") ∷
-    (interval·dim named "interval.dim") ∷
-    (interval·neg named "interval.neg") ∷
-    (interval·meet named "interval.meet") ∷
-    (interval·join named "interval.join") ∷
-    (ishift·0 named "ishift.0") ∷
-    (ishift·1 named "ishift.1") ∷
-    (ishift·dim·lt named "ishift.dim.lt") ∷
-    (ishift·dim·ge named "ishift.dim.ge") ∷
-    (ishift·neg named "ishift.neg") ∷
-    (ishift·meet named "ishift.meet") ∷
-    (ishift·join named "ishift.join") ∷
-    (isubst·0 named "isubst.0") ∷
-    (isubst·1 named "isubst.1") ∷
-    (isubst·dim·hit named "isubst.dim.hit") ∷
-    (isubst·dim·lt named "isubst.dim.lt") ∷
-    (isubst·dim·gt named "isubst.dim.gt") ∷
-    (isubst·neg named "isubst.neg") ∷
-    (isubst·meet named "isubst.meet") ∷
-    (isubst·join named "isubst.join") ∷
-    (shift·u named "shift.u") ∷
-    (shift·nat named "shift.nat") ∷
-    (shift·zero named "shift.zero") ∷
-    (shift·v·lt named "shift.v.lt") ∷
-    (shift·v·ge named "shift.v.ge") ∷
-    (shift·pi named "shift.pi") ∷
-    (shift·lam named "shift.lam") ∷
-    (shift·app named "shift.app") ∷
-    (shift·path named "shift.path") ∷
-    (shift·plam named "shift.plam") ∷
-    (shift·papp named "shift.papp") ∷
-    (subst·u named "subst.u") ∷
-    (subst·nat named "subst.nat") ∷
-    (subst·zero named "subst.zero") ∷
-    (subst·v·hit named "subst.v.hit") ∷
-    (subst·v·lt named "subst.v.lt") ∷
-    (subst·v·gt named "subst.v.gt") ∷
-    (subst·pi named "subst.pi") ∷
-    (subst·lam named "subst.lam") ∷
-    (subst·app named "subst.app") ∷
-    (subst·path named "subst.path") ∷
-    (subst·plam named "subst.plam") ∷
-    (subst·papp named "subst.papp") ∷
-    (dshift·u named "dshift.u") ∷
-    (dshift·nat named "dshift.nat") ∷
-    (dshift·zero named "dshift.zero") ∷
-    (dshift·v named "dshift.v") ∷
-    (dshift·pi named "dshift.pi") ∷
-    (dshift·lam named "dshift.lam") ∷
-    (dshift·app named "dshift.app") ∷
-    (dshift·path named "dshift.path") ∷
-    (dshift·plam named "dshift.plam") ∷
-    (dshift·papp named "dshift.papp") ∷
-    (dsubst·u named "dsubst.u") ∷
-    (dsubst·nat named "dsubst.nat") ∷
-    (dsubst·zero named "dsubst.zero") ∷
-    (dsubst·v named "dsubst.v") ∷
-    (dsubst·pi named "dsubst.pi") ∷
-    (dsubst·lam named "dsubst.lam") ∷
-    (dsubst·app named "dsubst.app") ∷
-    (dsubst·path named "dsubst.path") ∷
-    (dsubst·plam named "dsubst.plam") ∷
-    (dsubst·papp named "dsubst.papp") ∷
-    (type·u named "type.u") ∷
-    (type·nat named "type.nat") ∷
-    (type·zero named "type.zero") ∷
-    (type·v named "type.v") ∷
-    (type·pi named "type.pi") ∷
-    (type·lam named "type.lam") ∷
-    (type·app named "type.app") ∷
-    (type·path named "type.path") ∷
-    (type·plam named "type.plam") ∷
-    (type·papp named "type.papp") ∷
-    (type·conv named "type.conv") ∷
-    (eq·refl named "eq.refl") ∷
-    (eq·sym named "eq.sym") ∷
-    (eq·trans named "eq.trans") ∷
-    (eq·beta named "eq.beta") ∷
-    (eq·pbeta named "eq.pbeta") ∷
-    (eq·p0 named "eq.p0") ∷
-    (eq·p1 named "eq.p1") ∷
+    (ctx·nil named "ctx.nil" concludes ctx) ∷
+    (ctx·cons named "ctx.cons" concludes ctx) ∷
+    (dshiftctx·nil named "dshiftctx.nil" concludes dshiftctx) ∷
+    (dshiftctx·cons named "dshiftctx.cons" concludes dshiftctx) ∷
+    (lookup·z named "lookup.z" concludes lookup) ∷
+    (lookup·s named "lookup.s" concludes lookup) ∷
+    (lt·z named "lt.z" concludes lt) ∷
+    (lt·s named "lt.s" concludes lt) ∷
+    (le·z named "le.z" concludes le) ∷
+    (le·s named "le.s" concludes le) ∷
+    (max·z named "max.z" concludes max) ∷
+    (max·sz named "max.sz" concludes max) ∷
+    (max·ss named "max.ss" concludes max) ∷
+    (interval·0 named "interval.0" concludes interval) ∷
+    (interval·1 named "interval.1" concludes interval) ∷
+    (interval·dim named "interval.dim" concludes interval) ∷
+    (interval·neg named "interval.neg" concludes interval) ∷
+    (interval·meet named "interval.meet" concludes interval) ∷
+    (interval·join named "interval.join" concludes interval) ∷
+    (ishift·0 named "ishift.0" concludes ishift) ∷
+    (ishift·1 named "ishift.1" concludes ishift) ∷
+    (ishift·dim·lt named "ishift.dim.lt" concludes ishift) ∷
+    (ishift·dim·ge named "ishift.dim.ge" concludes ishift) ∷
+    (ishift·neg named "ishift.neg" concludes ishift) ∷
+    (ishift·meet named "ishift.meet" concludes ishift) ∷
+    (ishift·join named "ishift.join" concludes ishift) ∷
+    (isubst·0 named "isubst.0" concludes isubst) ∷
+    (isubst·1 named "isubst.1" concludes isubst) ∷
+    (isubst·dim·hit named "isubst.dim.hit" concludes isubst) ∷
+    (isubst·dim·lt named "isubst.dim.lt" concludes isubst) ∷
+    (isubst·dim·gt named "isubst.dim.gt" concludes isubst) ∷
+    (isubst·neg named "isubst.neg" concludes isubst) ∷
+    (isubst·meet named "isubst.meet" concludes isubst) ∷
+    (isubst·join named "isubst.join" concludes isubst) ∷
+    (shift·u named "shift.u" concludes shift) ∷
+    (shift·nat named "shift.nat" concludes shift) ∷
+    (shift·zero named "shift.zero" concludes shift) ∷
+    (shift·v·lt named "shift.v.lt" concludes shift) ∷
+    (shift·v·ge named "shift.v.ge" concludes shift) ∷
+    (shift·pi named "shift.pi" concludes shift) ∷
+    (shift·lam named "shift.lam" concludes shift) ∷
+    (shift·app named "shift.app" concludes shift) ∷
+    (shift·path named "shift.path" concludes shift) ∷
+    (shift·plam named "shift.plam" concludes shift) ∷
+    (shift·papp named "shift.papp" concludes shift) ∷
+    (subst·u named "subst.u" concludes subst) ∷
+    (subst·nat named "subst.nat" concludes subst) ∷
+    (subst·zero named "subst.zero" concludes subst) ∷
+    (subst·v·hit named "subst.v.hit" concludes subst) ∷
+    (subst·v·lt named "subst.v.lt" concludes subst) ∷
+    (subst·v·gt named "subst.v.gt" concludes subst) ∷
+    (subst·pi named "subst.pi" concludes subst) ∷
+    (subst·lam named "subst.lam" concludes subst) ∷
+    (subst·app named "subst.app" concludes subst) ∷
+    (subst·path named "subst.path" concludes subst) ∷
+    (subst·plam named "subst.plam" concludes subst) ∷
+    (subst·papp named "subst.papp" concludes subst) ∷
+    (dshift·u named "dshift.u" concludes dshift) ∷
+    (dshift·nat named "dshift.nat" concludes dshift) ∷
+    (dshift·zero named "dshift.zero" concludes dshift) ∷
+    (dshift·v named "dshift.v" concludes dshift) ∷
+    (dshift·pi named "dshift.pi" concludes dshift) ∷
+    (dshift·lam named "dshift.lam" concludes dshift) ∷
+    (dshift·app named "dshift.app" concludes dshift) ∷
+    (dshift·path named "dshift.path" concludes dshift) ∷
+    (dshift·plam named "dshift.plam" concludes dshift) ∷
+    (dshift·papp named "dshift.papp" concludes dshift) ∷
+    (dsubst·u named "dsubst.u" concludes dsubst) ∷
+    (dsubst·nat named "dsubst.nat" concludes dsubst) ∷
+    (dsubst·zero named "dsubst.zero" concludes dsubst) ∷
+    (dsubst·v named "dsubst.v" concludes dsubst) ∷
+    (dsubst·pi named "dsubst.pi" concludes dsubst) ∷
+    (dsubst·lam named "dsubst.lam" concludes dsubst) ∷
+    (dsubst·app named "dsubst.app" concludes dsubst) ∷
+    (dsubst·path named "dsubst.path" concludes dsubst) ∷
+    (dsubst·plam named "dsubst.plam" concludes dsubst) ∷
+    (dsubst·papp named "dsubst.papp" concludes dsubst) ∷
+    (type·u named "type.u" concludes has) ∷
+    (type·nat named "type.nat" concludes has) ∷
+    (type·zero named "type.zero" concludes has) ∷
+    (type·v named "type.v" concludes has) ∷
+    (type·pi named "type.pi" concludes has) ∷
+    (type·lam named "type.lam" concludes has) ∷
+    (type·app named "type.app" concludes has) ∷
+    (type·path named "type.path" concludes has) ∷
+    (type·plam named "type.plam" concludes has) ∷
+    (type·papp named "type.papp" concludes has) ∷
+    (type·conv named "type.conv" concludes has) ∷
+    (eq·refl named "eq.refl" concludes eq) ∷
+    (eq·sym named "eq.sym" concludes eq) ∷
+    (eq·trans named "eq.trans" concludes eq) ∷
+    (eq·beta named "eq.beta" concludes eq) ∷
+    (eq·pbeta named "eq.pbeta" concludes eq) ∷
+    (eq·p0 named "eq.p0" concludes eq) ∷
+    (eq·p1 named "eq.p1" concludes eq) ∷
     []
+
+-- How many there are.
+abbrev pub rule-count : ℕ
+rule-count = 95
+
+-- A number that is no rule has an empty name, and concludes a kind that no judgment has.
+abbrev pub no-rule : Named
+no-rule = rule-count named "" concludes 255
+
+unfoldable pub kind-of : ℕ → ℕ
+kind-of n = getD rules n no-rule .kind
 
 -- The table has the rules in the order of their numbers, each once.
 abbrev numbers : List Named → List ℕ
@@ -406,5 +466,5 @@ abbrev numbered : ℕ → ℕ → List ℕ
 numbered n ℕ.zero = []
 numbered n (ℕ.suc k) = n ∷ numbered (suc n) k
 
-pub in-order : numbers rules ≡ numbered 0 95
+pub in-order : numbers rules ≡ numbered 0 rule-count
 in-order = refl

@@ -3,12 +3,12 @@
 use crate::program::Left;
 use crate::quote;
 use crate::same::{nodes_of, NO_ROW};
-use oracle::{batch, rules, Ran};
+use oracle::{batch, Ran};
 use std::fmt::Write;
 
-/// How many arguments of a judgment are shown, and which are numbers, by the
-/// name that its rule starts with.
-const KINDS: &[(&str, &[bool])] = &[
+/// The judgments by number: the name, and which of the arguments are numbers.
+// written by tools/written.py: judgments
+const JUDGMENTS: &[(&str, &[bool])] = &[
     ("ctx", &[true, false]),
     ("dshiftctx", &[false, true, false]),
     ("lookup", &[false, true, false]),
@@ -22,9 +22,20 @@ const KINDS: &[(&str, &[bool])] = &[
     ("subst", &[false, true, false, false]),
     ("dshift", &[false, true, false]),
     ("dsubst", &[false, true, false, false]),
-    ("type", &[true, false, false, false]),
+    ("has", &[true, false, false, false]),
     ("eq", &[true, false, false, false, false]),
 ];
+// end of judgments
+
+/// The judgment that each rule concludes.
+// written by tools/written.py: concluded
+const CONCLUDED: &[usize] = &[
+    0, 0, 1, 1, 2, 2, 3, 3, 4, 4, 5, 5, 5, 6, 6, 6, 6, 6, 6, 7, 7, 7, 7, 7, 7, 7, 8, 8, 8, 8, 8, 8,
+    8, 8, 9, 9, 9, 9, 9, 9, 9, 9, 9, 9, 9, 10, 10, 10, 10, 10, 10, 10, 10, 10, 10, 10, 10, 11, 11,
+    11, 11, 11, 11, 11, 11, 11, 11, 12, 12, 12, 12, 12, 12, 12, 12, 12, 12, 13, 13, 13, 13, 13, 13,
+    13, 13, 13, 13, 13, 14, 14, 14, 14, 14, 14, 14,
+];
+// end of concluded
 
 pub fn oracle_text(ran: &Ran) -> String {
     let mut out = String::new();
@@ -60,13 +71,12 @@ pub fn program_text(left: &Left, ran: &Ran) -> String {
 }
 
 fn judgment(words: &[u32], nodes: &[oracle::Node]) -> String {
-    let name = rules::NAMES.get(words[0] as usize).map(|name| name.split('.').next().unwrap());
-    let kind = name.and_then(|name| KINDS.iter().find(|(kind, _)| *kind == name));
-    let Some((name, numbers)) = kind else {
+    let Some((name, numbers)) = CONCLUDED.get(words[0] as usize).map(|kind| JUDGMENTS[*kind])
+    else {
         return format!("{:?}", &words[12..18]);
     };
-    let mut out = format!("({}", if *name == "type" { "has" } else { name });
-    for (word, number) in words[13..18].iter().zip(*numbers) {
+    let mut out = format!("({name}");
+    for (word, number) in words[13..18].iter().zip(numbers) {
         if *number {
             write!(out, " {word}").unwrap();
         } else {

@@ -1,5 +1,6 @@
 //! The names of the rules, in the order of docs/FORMAT.md: a name's place is its number.
 
+// written by tools/written.py: names of rules
 pub const NAMES: [&str; 95] = [
     "ctx.nil",
     "ctx.cons",
@@ -13,7 +14,7 @@ pub const NAMES: [&str; 95] = [
     "le.s",
     "max.z",
     "max.sz",
-    "max.ss", //
+    "max.ss",
     "interval.0",
     "interval.1",
     "interval.dim",
@@ -26,7 +27,7 @@ pub const NAMES: [&str; 95] = [
     "ishift.dim.ge",
     "ishift.neg",
     "ishift.meet",
-    "ishift.join", //
+    "ishift.join",
     "isubst.0",
     "isubst.1",
     "isubst.dim.hit",
@@ -34,7 +35,7 @@ pub const NAMES: [&str; 95] = [
     "isubst.dim.gt",
     "isubst.neg",
     "isubst.meet",
-    "isubst.join", //
+    "isubst.join",
     "shift.u",
     "shift.nat",
     "shift.zero",
@@ -45,7 +46,7 @@ pub const NAMES: [&str; 95] = [
     "shift.app",
     "shift.path",
     "shift.plam",
-    "shift.papp", //
+    "shift.papp",
     "subst.u",
     "subst.nat",
     "subst.zero",
@@ -57,7 +58,7 @@ pub const NAMES: [&str; 95] = [
     "subst.app",
     "subst.path",
     "subst.plam",
-    "subst.papp", //
+    "subst.papp",
     "dshift.u",
     "dshift.nat",
     "dshift.zero",
@@ -67,7 +68,7 @@ pub const NAMES: [&str; 95] = [
     "dshift.app",
     "dshift.path",
     "dshift.plam",
-    "dshift.papp", //
+    "dshift.papp",
     "dsubst.u",
     "dsubst.nat",
     "dsubst.zero",
@@ -77,7 +78,7 @@ pub const NAMES: [&str; 95] = [
     "dsubst.app",
     "dsubst.path",
     "dsubst.plam",
-    "dsubst.papp", //
+    "dsubst.papp",
     "type.u",
     "type.nat",
     "type.zero",
@@ -88,7 +89,7 @@ pub const NAMES: [&str; 95] = [
     "type.path",
     "type.plam",
     "type.papp",
-    "type.conv", //
+    "type.conv",
     "eq.refl",
     "eq.sym",
     "eq.trans",
@@ -97,6 +98,7 @@ pub const NAMES: [&str; 95] = [
     "eq.p0",
     "eq.p1",
 ];
+// end of names of rules
 
 /// A rule's number. Every rule that the source names in this profile has one.
 pub fn number(name: &str) -> usize {

@@ -2,7 +2,7 @@
 use mathlib.Core.Path.{sym, ap}
 use borrow.Author.Needs.{needs}
 use lib.ListN.{length}
-use Rattle.rules.specs.Kinds.{sorts-of}
+use Rattle.rules.specs.Kinds.{sorts-of, judgment-count}
 use Rattle.rules.proofs.Table.{at}
 use Rattle.rules.proofs.Past.{sorts-past}
 use Rattle.rules.proofs.argument_count.Statement.{statement}
@@ -16,7 +16,7 @@ array-read-result c = search needs
 
 returns : tie.Need-returns
 unfolding sorts-of
-returns c = at (λ k. length (sorts-of k)) 15 _ (c .if1 .taken)
+returns c = at (λ k. length (sorts-of k)) judgment-count _ (c .if1 .taken)
 
 returns-2 : tie.Need-returns-2
 returns-2 c = sym (ap length (sorts-past _ (c .if1 .left)))

@@ -1,6 +1,6 @@
 -- `rules::argument_sort` meets its contract: the table is the list of the arguments' sorts, which antt computes.
 use borrow.Author.Needs.{needs}
-use Rattle.rules.specs.Kinds.{sorts-of, sort-of}
+use Rattle.rules.specs.Kinds.{sorts-of, sort-of, judgment-count}
 use Rattle.rules.proofs.Table.{at-row}
 use Rattle.rules.proofs.Past.{sort-far, sort-past}
 use Rattle.rules.proofs.argument_sort.Statement.{statement}
@@ -20,7 +20,7 @@ array-read-result c = search needs
 
 returns : tie.Need-returns
 unfolding sorts-of sort-of
-returns c = at-row 15 5 sort-of _ _ (c .before .if1 .taken) (c .if2 .taken)
+returns c = at-row judgment-count 5 sort-of _ _ (c .before .if1 .taken) (c .if2 .taken)
 
 returns-2 : tie.Need-returns-2
 returns-2 c = sort-far _ _ (c .if2 .left)

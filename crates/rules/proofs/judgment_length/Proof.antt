@@ -2,6 +2,7 @@
 use mathlib.Core.Path.{sym, ap}
 use borrow.Author.Needs.{needs}
 use lib.ListN.{length}
+use Rattle.rules.specs.Kinds.{judgment-count}
 use Rattle.rules.specs.Names.{judgment-name}
 use Rattle.rules.proofs.Table.{at}
 use Rattle.rules.proofs.Past.{judgment-past}
@@ -16,7 +17,7 @@ array-read-result c = search needs
 
 returns : tie.Need-returns
 unfolding judgment-name
-returns c = at (λ n. length (judgment-name n)) 15 _ (c .if1 .taken)
+returns c = at (λ n. length (judgment-name n)) judgment-count _ (c .if1 .taken)
 
 returns-2 : tie.Need-returns-2
 returns-2 c = sym (ap length (judgment-past _ (c .if1 .left)))

@@ -2,6 +2,7 @@
 use mathlib.Core.Path.{sym, ap}
 use borrow.Author.Needs.{needs}
 use lib.ListN.{length}
+use Rattle.rules.specs.Kinds.{node-count}
 use Rattle.rules.specs.Names.{node-name}
 use Rattle.rules.proofs.Table.{at}
 use Rattle.rules.proofs.Past.{node-past}
@@ -16,7 +17,7 @@ array-read-result c = search needs
 
 returns : tie.Need-returns
 unfolding node-name
-returns c = at (λ n. length (node-name n)) 34 _ (c .if1 .taken)
+returns c = at (λ n. length (node-name n)) node-count _ (c .if1 .taken)
 
 returns-2 : tie.Need-returns-2
 returns-2 c = sym (ap length (node-past _ (c .if1 .left)))

@@ -1,7 +1,7 @@
 -- `rules::part_word` meets its contract: the table is the list of the parts' words, which antt computes.
 use mathlib.Core.Path.{ap}
 use borrow.Author.Needs.{needs}
-use Rattle.rules.specs.Kinds.{Part, parts-of, part-of}
+use Rattle.rules.specs.Kinds.{Part, parts-of, part-of, node-count}
 use Rattle.rules.proofs.Table.{at-row}
 use Rattle.rules.proofs.Past.{part-far, part-past}
 use Rattle.rules.proofs.part_word.Statement.{statement}
@@ -21,7 +21,7 @@ array-read-result c = search needs
 
 returns : tie.Need-returns
 unfolding parts-of part-of
-returns c = at-row 34 3 (λ k n. part-of k n .word) _ _ (c .before .if1 .taken) (c .if2 .taken)
+returns c = at-row node-count 3 (λ k n. part-of k n .word) _ _ (c .before .if1 .taken) (c .if2 .taken)
 
 returns-2 : tie.Need-returns-2
 returns-2 c = ap (λ (p : Part). p .word) (part-far _ _ (c .if2 .left))

@@ -2,6 +2,7 @@
 use mathlib.Core.Path.{sym, ap}
 use borrow.Author.Needs.{needs}
 use lib.ListN.{length}
+use Rattle.walk.specs.Rule.{rule-count}
 use Rattle.rules.specs.Names.{rule-name}
 use Rattle.rules.proofs.Table.{at}
 use Rattle.rules.proofs.Past.{rule-past}
@@ -16,7 +17,7 @@ array-read-result c = search needs
 
 returns : tie.Need-returns
 unfolding rule-name
-returns c = at (λ n. length (rule-name n)) 95 _ (c .if1 .taken)
+returns c = at (λ n. length (rule-name n)) rule-count _ (c .if1 .taken)
 
 returns-2 : tie.Need-returns-2
 returns-2 c = sym (ap length (rule-past _ (c .if1 .left)))

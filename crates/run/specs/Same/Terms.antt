@@ -67,6 +67,7 @@ module _ (bytes : List ℕ) (short : length bytes ≤ 65536) where
   built-interval (suc f) at {a} {rest} {end} e = let n = interval-node f bytes at e in go (n .kind) (ikind-is (byte-at bytes at) (n .kind) (n .here)) (n .inside) (n .follows) (λ from _ _ _. built-interval f from)
     where
       go : (k : IKind) → byte-at bytes at ≡ ikind-byte k → at < length bytes → interval-of f k (drop (at + 1) bytes) (at + 1) ≡ got a rest end → ((from : ℕ) (r : Interval) (rest : List ℕ) (end : ℕ) → read-interval f (drop from bytes) from ≡ got r rest end → built f bytes from ≡ made end (build-interval r)) → built (suc f) bytes at ≡ made end (build-interval a)
+      -- written by tools/written.py: kinds of an interval
       go k-0 b l e ih = let (p, q, s) = is-ok I0 _ _ e in ended build-interval _ p s (plain bytes f at 16 b refl ∙ rw (up-is at (omega arith)))
       go k-1 b l e ih = let (p, q, s) = is-ok I1 _ _ e in ended build-interval _ p s (plain bytes f at 17 b refl ∙ rw (up-is at (omega arith)))
       go k-dim b l e ih =
@@ -88,6 +89,7 @@ module _ (bytes : List ℕ) (short : length bytes ≤ 65536) where
           let v = a-part _ (goes-interval f) bytes (w .middle) (w .two) in
           let (p, q, s) = is-ok (Join (w .first) (v .first)) _ _ (v .two) in
           ended build-interval _ p s (of-two bytes f at 21 b refl ∙ rw (up-is at (omega arith)) (two (built f bytes) 21 (at + 1) _ _ _ _ (ih (at + 1) _ _ _ (w .one)) (ih (w .middle) _ _ _ (v .one))))
+      -- end of kinds of an interval
 
   pub built-term : (f at : ℕ) {a : Term} {rest : List ℕ} {end : ℕ} → read-term f (drop at bytes) at ≡ got a rest end → built f bytes at ≡ made end (build-term a)
   unfolding read-term build-term term-of parts-of
@@ -95,6 +97,7 @@ module _ (bytes : List ℕ) (short : length bytes ≤ 65536) where
   built-term (suc f) at {a} {rest} {end} e = let n = term-node f bytes at e in go (n .kind) (kind-is (byte-at bytes at) (n .kind) (n .here)) (n .inside) (n .follows) (λ from _ _ _. built-term f from)
     where
       go : (k : Kind) → byte-at bytes at ≡ kind-byte k → at < length bytes → term-of f k (drop (at + 1) bytes) (at + 1) ≡ got a rest end → ((from : ℕ) (t : Term) (rest : List ℕ) (end : ℕ) → read-term f (drop from bytes) from ≡ got t rest end → built f bytes from ≡ made end (build-term t)) → built (suc f) bytes at ≡ made end (build-term a)
+      -- written by tools/written.py: kinds of a term
       go k-u b l e ih =
           let w = a-part _ goes-byte bytes (at + 1) e in
           let c = a-byte bytes (at + 1) (w .one) in
@@ -138,3 +141,4 @@ module _ (bytes : List ℕ) (short : length bytes ≤ 65536) where
           let v = a-part _ (goes-interval f) bytes (w .middle) (w .two) in
           let (p, q, s) = is-ok (PathApp (w .first) (v .first)) _ _ (v .two) in
           ended build-term _ p s (of-two bytes f at 10 b refl ∙ rw (up-is at (omega arith)) (two (built f bytes) 10 (at + 1) _ _ _ _ (ih (at + 1) _ _ _ (w .one)) (built-interval f (w .middle) (v .one))))
+      -- end of kinds of a term

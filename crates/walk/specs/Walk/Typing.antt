@@ -3,7 +3,7 @@ use Prim.Native.Nat.{ℕ}
 use mathlib.Core.List.{List, [], _∷_}
 use mathlib.Core.Option.{Option, none, some}
 use native.Mathlib.Decide.{ℕ-discrete}
-use Rattle.walk.specs.Syntax.{I0, I1, Term, Universe, Var, Nat, Zero, Pi, Lam, App, Path, PathLam, PathApp, Context, Cons, quote, quotes, quote?}
+use Rattle.walk.specs.Syntax.{I0, I1, Dim, Neg, Meet, Join, Term, Universe, Var, Nat, Zero, Pi, Lam, App, Path, PathLam, PathApp, Context, Cons, quote, quotes, quote?}
 use Rattle.walk.specs.Judgment.{Judgment, has}
 use Rattle.walk.specs.Reader.{Kind, Kind-discrete, k-u, k-v, k-nat, k-zero, k-pi, k-lam, k-app, k-path, k-plam, k-papp}
 use Rattle.walk.specs.Rule as R
@@ -28,16 +28,18 @@ abbrev seen : Kind → ℕ → Term → Term → Term → View
 seen k n a b c = record { kind = k; number = n; one = a; two = b; three = c }
 
 abbrev pub view : Term → View
-view (Universe l) = seen k-u l Nat Nat Nat
+-- written by tools/written.py: view
+view (Universe n) = seen k-u n Nat Nat Nat
 view (Var n) = seen k-v n Nat Nat Nat
 view Nat = seen k-nat 0 Nat Nat Nat
 view Zero = seen k-zero 0 Nat Nat Nat
 view (Pi a b) = seen k-pi 0 a b Nat
 view (Lam a b) = seen k-lam 0 a b Nat
-view (App f a) = seen k-app 0 f a Nat
+view (App a b) = seen k-app 0 a b Nat
 view (Path a b c) = seen k-path 0 a b c
 view (PathLam a b) = seen k-plam 0 a b Nat
-view (PathApp p r) = seen k-papp 0 p Nat Nat
+view (PathApp a b) = seen k-papp 0 a Nat Nat
+-- end of view
 
 -- what a term has, where it is of a kind
 abbrev pub if-so : {P A : Type 0} → Dec P → A → Option A

@@ -1,37 +1,19 @@
--- `parts::of_interval` meets its contract: each arm is a range of the table of kinds.
-use Prim.Native.Nat.{ℕ, _≤_, _<_}
-use mathlib.Core.Path.{_≡_, refl, _∙_}
-use mathlib.Core.Logic.{⊎-elim}
-use mathlib.Core.Option.{none, some}
-use mathlib.Core.List.{[], _∷_}
-use native.Mathlib.Omega.{arith}
+-- `parts::of_interval` meets its contract: each arm is an entry of the table of kinds.
+-- Written by tools/written.py from tools/language.py; `python3 tools/written.py` makes it again.
+use mathlib.Core.Path.{refl}
 use borrow.Author.Needs.{needs}
-use lib.ListN.{getD, replicate, List·getD-append, getD-replicate, List·getD-eq-default}
-use Rattle.walk.specs.Reader.{ikinds, k-0, k-1, k-dim, k-neg, k-meet, k-join}
-use Rattle.syntax.specs.Parts.{iparts, of-kind, part, so-many, Lists, parts-none, parts-two, parts-refused}
-use Rattle.syntax.specs.declared.parts.Parts.{Parts}
-use Rattle.syntax.proofs.Tables.{each, listed}
+use Rattle.walk.specs.Reader.{k-0, k-1, k-dim, k-neg, k-meet, k-join, ikinds}
+use Rattle.syntax.specs.Parts.{iparts, of-kind, part, so-many}
+use Rattle.syntax.specs.Kinds.{ikind-byte, ikind-is}
+use Rattle.syntax.proofs.Tables.{listed, none-such}
 use Rattle.syntax.proofs.parts.of_interval.Statement.{statement}
 use Rattle.syntax.proofs.parts.of_interval.Tie as tie
 
--- these parts are those of the kind b
-abbrev Right : Parts → ℕ → Type 0
-Right p b = Lists (of-kind iparts (getD ikinds b none)) p
+none-requires : tie.Need-none-requires
+none-requires c κs = search needs
 
-leaf : (b : ℕ) → 16 ≤ b → b ≤ 17 → Right parts-none b
-unfolding so-many part of-kind
-leaf b = each (Right parts-none) 16 1 b (listed _ tt tt tt refl, listed _ tt tt tt refl)
-
-pair : (b : ℕ) → 20 ≤ b → b ≤ 21 → Right (parts-two 2 2) b
-unfolding so-many part of-kind
-pair b = each (Right (parts-two 2 2)) 20 1 b (listed _ tt tt tt refl, listed _ tt tt tt refl)
-
-no-kind : (b : ℕ) → getD ikinds b none ≡ none → Right parts-refused b
-unfolding so-many of-kind
-no-kind b e = rw e (listed parts-refused tt tt tt refl)
-
-too-low : (b : ℕ) → b < 16 → getD ikinds b none ≡ none
-too-low b l = List·getD-append (replicate 16 none) (some k-0 ∷ some k-1 ∷ some k-dim ∷ some k-neg ∷ some k-meet ∷ some k-join ∷ []) none b l ∙ getD-replicate 16 b none none l
+none-requires-2 : tie.Need-none-requires-2
+none-requires-2 c κs = search needs
 
 one-requires : tie.Need-one-requires
 one-requires c κs = search needs
@@ -39,43 +21,57 @@ one-requires c κs = search needs
 one-requires-2 : tie.Need-one-requires-2
 one-requires-2 c κs = search needs
 
-none-requires : tie.Need-none-requires
-none-requires c κs = search needs
-
 two-requires : tie.Need-two-requires
 two-requires c κs = search needs
+
+two-requires-2 : tie.Need-two-requires-2
+two-requires-2 c κs = search needs
 
 refused-requires : tie.Need-refused-requires
 refused-requires c κs = search needs
 
 returns : tie.Need-returns
 unfolding so-many part of-kind
-returns c = rw (c .one .ensures, c .before .match .keys1) (listed _ tt tt tt refl)
+returns c = rw (c .none .ensures, c .before .match .keys1) (listed _ tt tt tt refl)
 
 returns-2 : tie.Need-returns-2
 unfolding so-many part of-kind
-returns-2 c = rw (c .one2 .ensures, c .before .match .keys2) (listed _ tt tt tt refl)
+returns-2 c = rw (c .none2 .ensures, c .before .match .keys2) (listed _ tt tt tt refl)
 
 returns-3 : tie.Need-returns-3
-returns-3 c = rw (c .none .ensures) (leaf (c .before .before .before .before .args .kind) (omega arith) (omega arith))
+unfolding so-many part of-kind
+returns-3 c = rw (c .one .ensures, c .before .match .keys3) (listed _ tt tt tt refl)
 
 returns-4 : tie.Need-returns-4
-returns-4 c = rw (c .two .ensures) (pair (c .before .before .before .before .before .args .kind) (omega arith) (omega arith))
+unfolding so-many part of-kind
+returns-4 c = rw (c .one2 .ensures, c .before .match .keys4) (listed _ tt tt tt refl)
 
 returns-5 : tie.Need-returns-5
-returns-5 c = rw (c .refused .ensures) (no-kind (c .before .before .before .args .kind) (⊎-elim (λ w. too-low (c .before .before .before .args .kind) (omega arith)) (λ w. List·getD-eq-default ikinds none {n = c .before .before .before .args .kind} (omega arith)) (c .before .if1 .came)))
+unfolding so-many part of-kind
+returns-5 c = rw (c .two .ensures, c .before .match .keys5) (listed _ tt tt tt refl)
+
+returns-6 : tie.Need-returns-6
+unfolding so-many part of-kind
+returns-6 c = rw (c .two2 .ensures, c .before .match .keys6) (listed _ tt tt tt refl)
+
+returns-7 : tie.Need-returns-7
+returns-7 c = rw (c .refused .ensures) (none-such ikinds ikind-byte iparts ikind-is (c .before .before .args .kind) (λ k. elim k [ k-0 ↦ c .before .match .rest .0 .0 .0 .0 .0 .1 | k-1 ↦ c .before .match .rest .0 .0 .0 .0 .1 | k-dim ↦ c .before .match .rest .0 .0 .0 .1 | k-neg ↦ c .before .match .rest .0 .0 .1 | k-meet ↦ c .before .match .rest .0 .1 | k-join ↦ c .before .match .rest .1 ]))
 
 pub of-interval-spec : {M : Type 1} → statement M
 of-interval-spec =
     tie.close
     (tie.spec
+    none-requires
+    none-requires-2
     one-requires
     one-requires-2
-    none-requires
     two-requires
+    two-requires-2
     refused-requires
     returns
     returns-2
     returns-3
     returns-4
-    returns-5)
+    returns-5
+    returns-6
+    returns-7)

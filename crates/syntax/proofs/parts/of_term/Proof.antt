@@ -1,91 +1,113 @@
--- `parts::of_term` meets its contract: each arm is a range of the table of kinds.
-use Prim.Native.Nat.{ℕ, _≤_, _<_}
+-- `parts::of_term` meets its contract: each arm is an entry of the table of kinds.
+-- Written by tools/written.py from tools/language.py; `python3 tools/written.py` makes it again.
 use mathlib.Core.Path.{refl}
-use mathlib.Core.Logic.{⊎-elim}
-use mathlib.Core.Option.{none}
-use native.Mathlib.Omega.{arith}
 use borrow.Author.Needs.{needs}
-use lib.ListN.{getD, List·getD-eq-default}
-use Rattle.walk.specs.Reader.{kinds}
-use Rattle.syntax.specs.Parts.{parts, of-kind, part, so-many, Lists, parts-none, parts-one, parts-two, parts-refused}
-use Rattle.syntax.specs.declared.parts.Parts.{Parts}
-use Rattle.syntax.proofs.Tables.{each, listed}
+use Rattle.walk.specs.Reader.{k-u, k-v, k-nat, k-zero, k-pi, k-lam, k-app, k-path, k-plam, k-papp, kinds}
+use Rattle.syntax.specs.Parts.{parts, of-kind, part, so-many}
+use Rattle.syntax.specs.Kinds.{kind-byte, kind-is}
+use Rattle.syntax.proofs.Tables.{listed, none-such}
 use Rattle.syntax.proofs.parts.of_term.Statement.{statement}
 use Rattle.syntax.proofs.parts.of_term.Tie as tie
-
--- these parts are those of the kind b
-abbrev Right : Parts → ℕ → Type 0
-Right p b = Lists (of-kind parts (getD kinds b none)) p
-
-number : (b : ℕ) → 1 ≤ b → b ≤ 2 → Right (parts-one 0) b
-unfolding so-many part of-kind
-number b = each (Right (parts-one 0)) 1 1 b (listed _ tt tt tt refl, listed _ tt tt tt refl)
-
-leaf : (b : ℕ) → 3 ≤ b → b ≤ 4 → Right parts-none b
-unfolding so-many part of-kind
-leaf b = each (Right parts-none) 3 1 b (listed _ tt tt tt refl, listed _ tt tt tt refl)
-
-pair : (b : ℕ) → 5 ≤ b → b ≤ 7 → Right (parts-two 1 1) b
-unfolding so-many part of-kind
-pair b = each (Right (parts-two 1 1)) 5 2 b (listed _ tt tt tt refl, (listed _ tt tt tt refl, listed _ tt tt tt refl))
-
-none-such : (b : ℕ) → 10 < b → Right parts-refused b
-unfolding so-many of-kind
-none-such b h = rw (List·getD-eq-default kinds none h) (listed parts-refused tt tt tt refl)
-
-three-requires : tie.Need-three-requires
-three-requires c κs = search needs
-
-two-requires : tie.Need-two-requires
-two-requires c κs = search needs
 
 one-requires : tie.Need-one-requires
 one-requires c κs = search needs
 
+one-requires-2 : tie.Need-one-requires-2
+one-requires-2 c κs = search needs
+
 none-requires : tie.Need-none-requires
 none-requires c κs = search needs
 
-refused-requires : tie.Need-refused-requires
-refused-requires c κs = search needs
+none-requires-2 : tie.Need-none-requires-2
+none-requires-2 c κs = search needs
+
+two-requires : tie.Need-two-requires
+two-requires c κs = search needs
 
 two-requires-2 : tie.Need-two-requires-2
 two-requires-2 c κs = search needs
 
+two-requires-3 : tie.Need-two-requires-3
+two-requires-3 c κs = search needs
+
+three-requires : tie.Need-three-requires
+three-requires c κs = search needs
+
+two-requires-4 : tie.Need-two-requires-4
+two-requires-4 c κs = search needs
+
+two-requires-5 : tie.Need-two-requires-5
+two-requires-5 c κs = search needs
+
+refused-requires : tie.Need-refused-requires
+refused-requires c κs = search needs
+
 returns : tie.Need-returns
 unfolding so-many part of-kind
-returns c = rw (c .three .ensures, c .before .match .keys2) (listed _ tt tt tt refl)
+returns c = rw (c .one .ensures, c .before .match .keys1) (listed _ tt tt tt refl)
 
 returns-2 : tie.Need-returns-2
 unfolding so-many part of-kind
-returns-2 c = rw (c .two .ensures, c .before .match .keys3) (listed _ tt tt tt refl)
+returns-2 c = rw (c .one2 .ensures, c .before .match .keys2) (listed _ tt tt tt refl)
 
 returns-3 : tie.Need-returns-3
-returns-3 c = rw (c .one .ensures) (number (c .before .before .before .before .args .kind) (omega arith) (omega arith))
+unfolding so-many part of-kind
+returns-3 c = rw (c .none .ensures, c .before .match .keys3) (listed _ tt tt tt refl)
 
 returns-4 : tie.Need-returns-4
-returns-4 c = rw (c .none .ensures) (leaf (c .before .before .before .before .before .args .kind) (omega arith) (omega arith))
+unfolding so-many part of-kind
+returns-4 c = rw (c .none2 .ensures, c .before .match .keys4) (listed _ tt tt tt refl)
 
 returns-5 : tie.Need-returns-5
 unfolding so-many part of-kind
-returns-5 c = rw (c .refused .ensures) (⊎-elim (λ w. each (Right parts-refused) 0 0 (c .before .before .before .args .kind) (listed _ tt tt tt refl) (omega arith) (omega arith)) (λ w. none-such (c .before .before .before .args .kind) (omega arith)) (c .before .if1 .came))
+returns-5 c = rw (c .two .ensures, c .before .match .keys5) (listed _ tt tt tt refl)
 
 returns-6 : tie.Need-returns-6
 unfolding so-many part of-kind
-returns-6 c = rw (c .two2 .ensures) (⊎-elim (λ w. rw (w .keys1) (listed _ tt tt tt refl)) (λ w. pair (c .before .before .args .kind) (omega arith) (omega arith)) (c .before .match .came))
+returns-6 c = rw (c .two2 .ensures, c .before .match .keys6) (listed _ tt tt tt refl)
+
+returns-7 : tie.Need-returns-7
+unfolding so-many part of-kind
+returns-7 c = rw (c .two3 .ensures, c .before .match .keys7) (listed _ tt tt tt refl)
+
+returns-8 : tie.Need-returns-8
+unfolding so-many part of-kind
+returns-8 c = rw (c .three .ensures, c .before .match .keys8) (listed _ tt tt tt refl)
+
+returns-9 : tie.Need-returns-9
+unfolding so-many part of-kind
+returns-9 c = rw (c .two4 .ensures, c .before .match .keys9) (listed _ tt tt tt refl)
+
+returns-10 : tie.Need-returns-10
+unfolding so-many part of-kind
+returns-10 c = rw (c .two5 .ensures, c .before .match .keys10) (listed _ tt tt tt refl)
+
+returns-11 : tie.Need-returns-11
+returns-11 c = rw (c .refused .ensures) (none-such kinds kind-byte parts kind-is (c .before .before .args .kind) (λ k. elim k [ k-u ↦ c .before .match .rest .0 .0 .0 .0 .0 .0 .0 .0 .0 .1 | k-v ↦ c .before .match .rest .0 .0 .0 .0 .0 .0 .0 .0 .1 | k-nat ↦ c .before .match .rest .0 .0 .0 .0 .0 .0 .0 .1 | k-zero ↦ c .before .match .rest .0 .0 .0 .0 .0 .0 .1 | k-pi ↦ c .before .match .rest .0 .0 .0 .0 .0 .1 | k-lam ↦ c .before .match .rest .0 .0 .0 .0 .1 | k-app ↦ c .before .match .rest .0 .0 .0 .1 | k-path ↦ c .before .match .rest .0 .0 .1 | k-plam ↦ c .before .match .rest .0 .1 | k-papp ↦ c .before .match .rest .1 ]))
 
 pub of-term-spec : {M : Type 1} → statement M
 of-term-spec =
     tie.close
     (tie.spec
-    three-requires
-    two-requires
     one-requires
+    one-requires-2
     none-requires
-    refused-requires
+    none-requires-2
+    two-requires
     two-requires-2
+    two-requires-3
+    three-requires
+    two-requires-4
+    two-requires-5
+    refused-requires
     returns
     returns-2
     returns-3
     returns-4
     returns-5
-    returns-6)
+    returns-6
+    returns-7
+    returns-8
+    returns-9
+    returns-10
+    returns-11)

@@ -1,0 +1,1 @@
+"""What tools/written.py writes, a file for each crate or tool."""
