@@ -39,6 +39,7 @@ view (App a b) = seen k-app 0 a b Nat
 view (Path a b c) = seen k-path 0 a b c
 view (PathLam a b) = seen k-plam 0 a b Nat
 view (PathApp a b) = seen k-papp 0 a Nat Nat
+
 -- end of view
 
 -- what a term has, where it is of a kind
