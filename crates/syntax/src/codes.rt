@@ -3,10 +3,10 @@ ghost use mathlib.Core.Path.{_≡_};
 ghost use lib.ListN.{set};
 ghost use lib.Seq.{sets};
 ghost use Rattle.syntax.specs.Codes.{call-codes, Readable};
+use super::cursor::past_at;
 use super::scan::Next;
 use super::scan::Scanned;
 use super::scan::scan_run;
-use super::scan::skip_call;
 
 // Stores a code, where there is room.
 fn put_code(codes: &mut [u8], i: usize, code: u8)
@@ -27,7 +27,7 @@ fn put_codes(s: &[u8], codes: &mut [u8])
     let mut i: usize = 0;
     while at < s.len() {
         put_code(codes, i, s[at]);
-        let next = skip_call(s, at, &mut stack);
+        let next = past_at(s, at, &mut stack);
         let Next::Past(p) = next else {
             return;
         };

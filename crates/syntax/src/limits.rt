@@ -8,6 +8,7 @@ ghost use Rattle.walk.specs.Limits.{size-term as walk-size, size-terms as walk-
 ghost use Rattle.syntax.specs.Told.{term-at, terms-at, call-at, short, size-in};
 ghost use Rattle.syntax.specs.Parts.{Counts, told-size};
 use super::cursor::head_at;
+use super::cursor::past_at;
 use super::parts::INDEX;
 use super::parts::TERM;
 use super::parts::deeper;
@@ -15,7 +16,6 @@ use super::parts::parts_after;
 use super::parts::push;
 use super::scan::Heading;
 use super::scan::Next;
-use super::scan::skip_call;
 use super::scan::terms_of;
 use super::scan::wide;
 use ast::refusals;
@@ -142,7 +142,7 @@ fn tell(c: Counted, end: usize) -> Size
 pub fn size_call(s: &[u8], from: usize, stack: &mut [u8]) -> Size
     ensures { λ r. ⌜ r ≡ size-in (short (now (stack .entry)) (now (s .entry))) (call-at (now (s .entry)) from) ⌝ }
 {
-    let next = skip_call(s, from, stack);
+    let next = past_at(s, from, stack);
     match next {
         Next::Short => Size::Short,
         Next::Bad(p) => Size::Bad(p),

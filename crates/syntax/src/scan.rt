@@ -7,6 +7,8 @@ ghost use lib.ListN.{length, drop, getD};
 ghost use Rattle.walk.specs.Reader.{codes, read-head as walk-head, read-limit as walk-limit, read-calls};
 ghost use Rattle.syntax.specs.Told.{term-at, terms-at, call-at, short, next-in, head-of, terms-in, limit-of, counted, scanned};
 use super::cursor::head_at;
+use super::cursor::limit_of;
+use super::cursor::past_at;
 use super::parts::TERM;
 use super::parts::parts_after;
 use super::parts::push;
@@ -168,7 +170,7 @@ fn count_calls(s: &[u8], limit: usize) -> Scanned
     let mut at: usize = 2;
     let mut calls: usize = 0;
     while at < s.len() {
-        let next = skip_call(s, at, &mut stack);
+        let next = past_at(s, at, &mut stack);
         match next {
             Next::Past(p) => {
                 at = p;
@@ -192,7 +194,7 @@ pub fn scan_run(s: &[u8]) -> Scanned
     if 65536 < s.len() {
         return Scanned::Refused(refusals::BYTES, 0);
     }
-    let limit = read_limit(s);
+    let limit = limit_of(s);
     match limit {
         Limit::Bad(p) => Scanned::Refused(refusals::UNREAD, p),
         Limit::Is(n) => count_calls(s, n),

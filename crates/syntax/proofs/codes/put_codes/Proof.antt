@@ -28,11 +28,11 @@ shared-slice-read-put-code c = search needs
 put-code-requires : tie.Need-put-code-requires Inv-loop μ-loop
 put-code-requires c κs = search needs
 
-slice-aggregate-skip-call : tie.Need-slice-aggregate-skip-call Inv-loop μ-loop
-slice-aggregate-skip-call c = search needs
+slice-aggregate-past-at : tie.Need-slice-aggregate-past-at Inv-loop μ-loop
+slice-aggregate-past-at c = search needs
 
-skip-call-requires : tie.Need-skip-call-requires Inv-loop μ-loop
-skip-call-requires c κs = search needs
+past-at-requires : tie.Need-past-at-requires Inv-loop μ-loop
+past-at-requires c κs = search needs
 
 enum-known-next : tie.Need-enum-known-next Inv-loop μ-loop
 enum-known-next c = search needs
@@ -41,16 +41,16 @@ same-length : tie.Need-same-length Inv-loop μ-loop
 same-length c = omega (arith, c .before .before .before .before .before .before .before .before .before .before .loop .inv .1, c .before .before .before .before .before .before .put-code .kept)
 
 returns : tie.Need-returns Inv-loop μ-loop
-returns c = absurd (no-fault _ (c .before .before .before .before .before .before .before .before .before .before .before .before .before .args .s .now) _ _ _ _ (c .before .before .before .before .before .before .before .before .before .before .loop .inv .3) (c .before .before .before .before .before .before .before .before .before .loop-test .taken) (le-ltb _ _ (room _ _ (c .before .before .before .before .before .before .before .before .before .before .before .before .before .pre .few) (c .before .before .before .before .before .before .before .before .before .before .loop .inv .2))) _ (not-past _ (c .match .keys2)) (c .before .before .skip-call .ensures))
+returns c = absurd (no-fault _ (c .before .before .before .before .before .before .before .before .before .before .before .before .before .args .s .now) _ _ _ _ (c .before .before .before .before .before .before .before .before .before .before .loop .inv .3) (c .before .before .before .before .before .before .before .before .before .loop-test .taken) (le-ltb _ _ (room _ _ (c .before .before .before .before .before .before .before .before .before .before .before .before .before .pre .few) (c .before .before .before .before .before .before .before .before .before .before .loop .inv .2))) _ (not-past _ (c .match .keys2)) (c .before .before .past-at .ensures))
 
 add-i : tie.Need-add-i Inv-loop μ-loop
 add-i c = search needs
 
 loop-less : tie.Need-loop-less Inv-loop μ-loop
-loop-less c = omega (arith, c .before .before .before .before .before .before .before .before .before .before .before .loop-test .taken, past-call _ (c .before .before .before .before .before .before .before .before .before .before .before .before .before .before .before .args .s .now) (c .before .before .before .before .before .before .before .before .before .before .before .before .loop .at) _ (sym (c .before .next .given .1) ∙ c .before .before .before .before .skip-call .ensures) .2)
+loop-less c = omega (arith, c .before .before .before .before .before .before .before .before .before .before .before .loop-test .taken, past-call _ (c .before .before .before .before .before .before .before .before .before .before .before .before .before .before .before .args .s .now) (c .before .before .before .before .before .before .before .before .before .before .before .before .loop .at) _ (sym (c .before .next .given .1) ∙ c .before .before .before .before .past-at .ensures) .2)
 
 loop-again : tie.Need-loop-again Inv-loop μ-loop
-loop-again c = (omega (arith, past-call _ (c .before .before .before .before .before .before .before .before .before .before .before .before .before .before .before .args .s .now) (c .before .before .before .before .before .before .before .before .before .before .before .before .loop .at) _ (sym (c .before .next .given .1) ∙ c .before .before .before .before .skip-call .ensures) .2, c .before .before .before .before .before .before .before .before .before .before .before .before .loop .inv .0), omega (arith, c .before .before .before .before .before .before .before .before .put-code .kept, c .before .before .before .before .before .before .before .before .before .before .before .before .loop .inv .1), omega (arith, c .before .before .before .before .skip-call .kept .1 .1 .0, c .before .before .before .before .before .before .before .before .before .before .before .before .loop .inv .2), rw (c .before .before .before .before .before .before .before .before .put-code .ensures) (turn _ (c .before .before .before .before .before .before .before .before .before .before .before .before .before .before .before .args .s .now) _ _ (c .before .before .before .before .before .before .before .before .before .before .before .before .loop .at) _ _ (c .before .before .before .before .before .before .before .before .before .before .before .before .loop .inv .3) (c .before .before .before .before .before .before .before .before .before .before .before .loop-test .taken) (sym (c .before .next .given .1) ∙ c .before .before .before .before .skip-call .ensures)))
+loop-again c = (omega (arith, past-call _ (c .before .before .before .before .before .before .before .before .before .before .before .before .before .before .before .args .s .now) (c .before .before .before .before .before .before .before .before .before .before .before .before .loop .at) _ (sym (c .before .next .given .1) ∙ c .before .before .before .before .past-at .ensures) .2, c .before .before .before .before .before .before .before .before .before .before .before .before .loop .inv .0), omega (arith, c .before .before .before .before .before .before .before .before .put-code .kept, c .before .before .before .before .before .before .before .before .before .before .before .before .loop .inv .1), omega (arith, c .before .before .before .before .past-at .kept .1 .1 .0, c .before .before .before .before .before .before .before .before .before .before .before .before .loop .inv .2), rw (c .before .before .before .before .before .before .before .before .put-code .ensures) (turn _ (c .before .before .before .before .before .before .before .before .before .before .before .before .before .before .before .args .s .now) _ _ (c .before .before .before .before .before .before .before .before .before .before .before .before .loop .at) _ _ (c .before .before .before .before .before .before .before .before .before .before .before .before .loop .inv .3) (c .before .before .before .before .before .before .before .before .before .before .before .loop-test .taken) (sym (c .before .next .given .1) ∙ c .before .before .before .before .past-at .ensures)))
 
 same-length-2 : tie.Need-same-length-2 Inv-loop μ-loop
 same-length-2 c = search needs
@@ -67,8 +67,8 @@ put-codes-spec =
     loop-holds
     shared-slice-read-put-code
     put-code-requires
-    slice-aggregate-skip-call
-    skip-call-requires
+    slice-aggregate-past-at
+    past-at-requires
     enum-known-next
     same-length
     returns

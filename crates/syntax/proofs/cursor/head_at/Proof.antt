@@ -16,7 +16,7 @@ use ghost.Atoms.{Atoms, sem}
 use contract.Lifetimes.{Lfts}
 use contract.Monad.{Fun, fact}
 use contract.Running.{givenOf, tables, tablesOf}
-use types.Kit.{Given, ‵, raw, _⊛_, ⋆, some, later, _$_, _∵_, !, qed, by, move, use1, use2, split, join, pick, fsplit, fjoin, suffices, frame, await, done}
+use types.Kit.{Given, ‵, raw, _⊛_, ⋆, some, later, _$_, _∵_, !, qed, by, move, drop as forgo, use1, use2, split, join, pick, fsplit, fjoin, suffices, frame, await, done}
 use types.Run.{look, init, forget, stop, from, load, and-then, no-more, land, returns, enter, alloc1, alloc0, params1, pass1, pass0, free1, free0}
 use sound.WpLaws.{FmC, fmOf, WpFn-mono}
 use denote.RattleType.{RattleType, owns}
@@ -49,6 +49,10 @@ use Rattle.syntax.proofs.cursor.Reader.new as new
 use Rattle.syntax.proofs.cursor.Reader.new.Symbol as new-def
 use Rattle.syntax.proofs.cursor.Reader.new.Symbol.{name as #syntax·new}
 use Rattle.syntax.proofs.cursor.Reader.new.Met as new-thm
+use Rattle.syntax.proofs.cursor.Reader.to as to
+use Rattle.syntax.proofs.cursor.Reader.to.Symbol as to-def
+use Rattle.syntax.proofs.cursor.Reader.to.Symbol.{name as #syntax·to}
+use Rattle.syntax.proofs.cursor.Reader.to.Met as to-thm
 use Rattle.syntax.proofs.cursor.Reader.head as head
 use Rattle.syntax.proofs.cursor.Reader.head.Symbol as head-def
 use Rattle.syntax.proofs.cursor.Reader.head.Symbol.{name as #syntax·head}
@@ -73,6 +77,9 @@ module _ {M : Type 1} (𝓤 : URA M) (H : Heap 𝓤) (A : Atoms 𝓤) (mem : Mem
   -- the contracts that the proof cites
   abbrev New : Contract 𝓤
   New = tripleOf 𝓤 H A new.signature (new.spec 𝓤 H A mem run)
+
+  abbrev To : Contract 𝓤
+  To = tripleOf 𝓤 H A to.signature (to.spec 𝓤 H A mem run)
 
   abbrev Head : Contract 𝓤
   Head = tripleOf 𝓤 H A head.signature (head.spec 𝓤 H A mem run)
@@ -101,16 +108,26 @@ module _ {M : Type 1} (𝓤 : URA M) (H : Heap 𝓤) (A : Atoms 𝓤) (W : Given
 
   -- the call of `new`: what it is passed, what it asks, and what is known of its result
   abbrev to-new : New 𝓤 H A mem run .Ghost
-  to-new = (((κ, tt), (q, tt), tt, (s, (n, tt)), at), tt)
+  to-new = (((κ, tt), (q, tt), tt, (s, tt), (v ∷ [], tt)), tt)
 
   goes-new : ent 𝓤 (onEntry 𝓤 H A at-place.signature (κ, tt) (q, tt) (s, (n, tt)) at) (sep 𝓤 (New 𝓤 H A mem run .pre to-new) (sem 𝓤 H A Own))
   goes-new =
       qed W ((‵ (flft κ q) ⊛ ‵ ftrue) ∷ ‵ (owns (ShrSlice (named 0) κ u8 ∷ usize ∷ []) (s, (n, tt)) at) ∷ []) ∵
-      move ! (1 ∷ []) $ fsplit ! $ use1 W (‵ Own ⊛ ‵ Own) (shr-slice-copy 𝓤 H A W (named 0) κ u8 .twice s (v ∷ [])) $ split ! $
-      move ! (0 ∷ 2 ∷ []) $ fjoin ! $ move ! (2 ∷ 0 ∷ []) $ use2 W (raw (New 𝓤 H A mem run .pre to-new)) (qed W ((‵ (flft κ q) ⊛ ‵ ftrue) ∷ ‵ (owns (ShrSlice (named 0) κ u8 ∷ usize ∷ []) (s, (n, tt)) at) ∷ []) ∵ join ! $ frame ! $ done !) $ frame ! $ done !
+      move ! (1 ∷ []) $ fsplit ! $ move ! (1 ∷ []) $ forgo ! $ use1 W (‵ Own ⊛ ‵ Own) (shr-slice-copy 𝓤 H A W (named 0) κ u8 .twice s (v ∷ [])) $ split ! $
+      nothing ! $ move ! (1 ∷ 0 ∷ []) $ fjoin ! $ move ! (2 ∷ 0 ∷ []) $ use2 W (raw (New 𝓤 H A mem run .pre to-new)) (qed W ((‵ (flft κ q) ⊛ ‵ ftrue) ∷ ‵ (owns (ShrSlice (named 0) κ u8 ∷ []) (s, tt) (v ∷ [], tt)) ∷ []) ∵ join ! $ frame ! $ done !) $ frame ! $ done !
 
-  new-said : (r : Reader) → ent 𝓤 (ensured 𝓤 H A new.ended (new.clauses 𝓤 H A mem run) (κ, tt) (s, (n, tt)) tt r) (fact 𝓤 ((r .src ≡ s) × (r .at ≡ n)))
-  new-said r = exE 𝓤 _ (λ ws. snd∗ 𝓤 (sem 𝓤 H A (lasts new.ended (κ, tt) (s, (n, tt)) ws)) (fact 𝓤 ((r .src ≡ s) × (r .at ≡ n))))
+  new-said : (r : Reader) → ent 𝓤 (ensured 𝓤 H A new.ended (new.clauses 𝓤 H A mem run) (κ, tt) (s, tt) tt r) (fact 𝓤 ((r .src ≡ s) × (r .at ≡ 0)))
+  new-said r = exE 𝓤 _ (λ ws. snd∗ 𝓤 (sem 𝓤 H A (lasts new.ended (κ, tt) (s, tt) ws)) (fact 𝓤 ((r .src ≡ s) × (r .at ≡ 0))))
+
+  -- the call of `to`, at the struct r with the machine value u
+  abbrev to-to : Reader → Val → To 𝓤 H A mem run .Ghost
+  to-to r u = (((κ, tt), (q, tt), tt, (r, (n, tt)), (u ∷ [], (vint w64 n ∷ [], tt))), tt)
+
+  goes-to : (r : Reader) (u : Val) → ent 𝓤 (⋆ 𝓤 H A (‵ (B (κ, tt) .own r (u ∷ [])) ∷ (‵ (flft κ q) ⊛ ‵ ftrue) ∷ [])) (To 𝓤 H A mem run .pre (to-to r u))
+  goes-to r u = qed W (‵ (B (κ, tt) .own r (u ∷ [])) ∷ (‵ (flft κ q) ⊛ ‵ ftrue) ∷ []) ∵ nothing ! $ owned ! usize (Is usize) (uint-makes 𝓤 H A W w64) n _ (refl, ok) $ fjoin ! $ move ! (1 ∷ 0 ∷ []) $ fjoin ! $ move ! (1 ∷ 0 ∷ []) $ join ! $ frame ! $ done !
+
+  to-said : (r r′ : Reader) → ent 𝓤 (ensured 𝓤 H A to.ended (to.clauses 𝓤 H A mem run) (κ, tt) (r, (n, tt)) tt r′) (fact 𝓤 ((r′ .src ≡ r .src) × (r′ .at ≡ n)))
+  to-said r r′ = exE 𝓤 _ (λ ws. snd∗ 𝓤 (sem 𝓤 H A (lasts to.ended (κ, tt) (r, (n, tt)) ws)) (fact 𝓤 ((r′ .src ≡ r .src) × (r′ .at ≡ n))))
 
   -- the call of `head`, at the struct r with the machine value u
   abbrev to-head : Reader → Val → Head 𝓤 H A mem run .Ghost
@@ -128,39 +145,48 @@ module _ {M : Type 1} (𝓤 : URA M) (H : Heap 𝓤) (A : Atoms 𝓤) (W : Given
       suffices ! _ (ends-at 𝓤 H A at-place.ended stayed (at-place.clauses 𝓤 H A mem run) W (((κ, tt), (q, tt), tt, (s, (n, tt)), at), tt) u t (tt, (tt, tt)) (tt, (tt, tt))) $ says ! e $
       move ! (1 ∷ []) $ frame ! $ nothing ! $ owned ! usize (Is usize) (uint-makes 𝓤 H A W w64) n _ (refl, ok) $ fjoin ! $ move ! (2 ∷ 0 ∷ []) $ fjoin ! $ frame ! $ done !
 
-  module _ (C : Calls 𝓤 H) (Λ : Loops 𝓤 H) (fm : FmC 𝓤 H (W .laws) C) (known-new : Triple 𝓤 (C #syntax·new) (New 𝓤 H A mem run)) (known-head : Triple 𝓤 (C #syntax·head) (Head 𝓤 H A mem run)) where
+  module _ (C : Calls 𝓤 H) (Λ : Loops 𝓤 H) (fm : FmC 𝓤 H (W .laws) C) (known-new : Triple 𝓤 (C #syntax·new) (New 𝓤 H A mem run)) (known-to : Triple 𝓤 (C #syntax·to) (To 𝓤 H A mem run)) (known-head : Triple 𝓤 (C #syntax·head) (Head 𝓤 H A mem run)) where
     walk : Is (ShrSlice (named 0) κ u8) s (v ∷ []) → ent 𝓤 (onEntry 𝓤 H A at-place.signature (κ, tt) (q, tt) (s, (n, tt)) at) (WpFn 𝓤 H C Λ code.function (v ∷ vint w64 n ∷ []) Post)
     walk p =
         qed W (raw (onEntry 𝓤 H A at-place.signature (κ, tt) (q, tt) (s, (n, tt)) at) ∷ []) ∵ enter ! C Λ code.function (v ∷ vint w64 n ∷ []) _ $
-        alloc1 ! (λ l₀. alloc1 ! (λ l₁. alloc1 ! (λ l₂. alloc1 ! (λ l₃. alloc0 ! $ params1 ! $ pass1 ! (init ! 4 refl (shr-slice-lawful 𝓤 H A W (named 0) κ u8 .typed s (v ∷ []) p .0)) $ pass1 ! (init ! 2 refl (tt, record { fits = ok })) $ pass0 ! $
-        move ! (8 ∷ []) $ use1 W (raw (New 𝓤 H A mem run .pre to-new) ⊛ ‵ Own) goes-new $ split ! $
-        calls-at ! fm (New 𝓤 H A mem run) known-new to-new (and-then ! (load ! (from ! (stop !)) (look ! 6 refl)) (and-then ! (load ! (from ! (stop !)) (look ! 4 refl)) (no-more !))) (λ u.
-        use1 W (later (some (λ (r : Reader). ((‵ (flft κ q) ⊛ ‵ ftrue) ⊛ ‵ (B (κ, tt) .own r (u ∷ []))) ⊛ raw (ensured 𝓤 H A new.ended (new.clauses 𝓤 H A mem run) (κ, tt) (s, (n, tt)) tt r)))) (id⊢ 𝓤 _) $ await ! tt $ pick ! (λ r.
-        split ! $ move ! (1 ∷ []) $ use1 W (raw (fact 𝓤 ((r .src ≡ s) × (r .at ≡ n)))) (new-said r) $ heard ! ((r .src ≡ s) × (r .at ≡ n)) (λ e. split ! $ move ! (1 ∷ []) $
-        -- [what the struct owns; the token; what s owns; room for _3; …; _2; …; _1; …; room for _0; …]
-        peeks ! (B (κ, tt)) (Is (B (κ, tt))) (shows 𝓤 H A (B (κ, tt))) r (u ∷ []) (λ is.
-        land ! (from ! (stop !)) (init ! 3 refl (LL.lawful (T.the-type αᵉ) (T′.the-laws αᵉ) 𝓤 H A W .typed r _ is .0)) $
-        use2 W (raw (Head 𝓤 H A mem run .pre (to-head r u))) (goes-head r u) $
-        calls-at ! fm (Head 𝓤 H A mem run) known-head (to-head r u) (and-then ! (load ! (from ! (stop !)) (look ! 2 refl)) (no-more !)) (λ u′.
-        use1 W (later (some (λ (t : Heading). ((‵ (flft κ q) ⊛ ‵ ftrue) ⊛ ‵ (S.the-row .own t (u′ ∷ []))) ⊛ raw (ensured 𝓤 H A head.ended (head.clauses 𝓤 H A mem run) (κ, tt) (r, tt) tt t)))) (id⊢ 𝓤 _) $ await ! tt $ pick ! (λ t.
-        split ! $ move ! (1 ∷ []) $ use1 W (raw (fact 𝓤 (t ≡ headAt (now (r .src)) (r .at)))) (head-said r t) $ heard ! (t ≡ headAt (now (r .src)) (r .at)) (λ e′. split ! $ move ! (1 ∷ []) $
-        -- [the result; the token; what s owns; _3; …; _2; …; _1; …; room for _0; …]
-        peeks ! S.the-row (Is S.the-row) (shows 𝓤 H A S.the-row) t (u′ ∷ []) (λ is′.
-        land ! (from ! (stop !)) (init ! 9 refl (EL.lawful S.the-type S′.the-laws 𝓤 H A W tt .typed t _ is′ .0)) $
-        returns ! (look ! 9 refl) $ forget ! 3 refl $ forget ! 5 refl $ forget ! 7 refl $ forget ! 9 refl $ move ! (9 ∷ 10 ∷ []) $ free1 ! $ move ! (7 ∷ 8 ∷ []) $ free1 ! $ move ! (5 ∷ 6 ∷ []) $ free1 ! $ move ! (3 ∷ 4 ∷ []) $ free1 ! $ free0 ! $
-        by ! (exits t u′ (e′ ∙ (ap (λ (x : RefT (List ℕ)). headAt (now x) (r .at)) (e .0) ∙ ap (headAt (now s)) (e .1))))))))))))))))
+        alloc1 ! (λ l₀. alloc1 ! (λ l₁. alloc1 ! (λ l₂. alloc1 ! (λ l₃. alloc1 ! (λ l₄. alloc0 ! $ params1 ! $ pass1 ! (init ! 6 refl (shr-slice-lawful 𝓤 H A W (named 0) κ u8 .typed s (v ∷ []) p .0)) $ pass1 ! (init ! 4 refl (tt, record { fits = ok })) $ pass0 ! $
+        -- `new`
+        move ! (10 ∷ []) $ use1 W (raw (New 𝓤 H A mem run .pre to-new) ⊛ ‵ Own) goes-new $ split ! $
+        calls-at ! fm (New 𝓤 H A mem run) known-new to-new (and-then ! (load ! (from ! (stop !)) (look ! 8 refl)) (no-more !)) (λ u₀.
+        use1 W (later (some (λ (r : Reader). ((‵ (flft κ q) ⊛ ‵ ftrue) ⊛ ‵ (B (κ, tt) .own r (u₀ ∷ []))) ⊛ raw (ensured 𝓤 H A new.ended (new.clauses 𝓤 H A mem run) (κ, tt) (s, tt) tt r)))) (id⊢ 𝓤 _) $ await ! tt $ pick ! (λ r₀.
+        split ! $ move ! (1 ∷ []) $ use1 W (raw (fact 𝓤 ((r₀ .src ≡ s) × (r₀ .at ≡ 0)))) (new-said r₀) $ heard ! ((r₀ .src ≡ s) × (r₀ .at ≡ 0)) (λ e₀. split ! $ move ! (1 ∷ []) $
+        -- [what the struct owns; the token; what s owns; room for _4; …; _3; …; _2; …; _1; …; room for _0; …]
+        peeks ! (B (κ, tt)) (Is (B (κ, tt))) (shows 𝓤 H A (B (κ, tt))) r₀ (u₀ ∷ []) (λ is₀.
+        land ! (from ! (stop !)) (init ! 3 refl (LL.lawful (T.the-type αᵉ) (T′.the-laws αᵉ) 𝓤 H A W .typed r₀ _ is₀ .0)) $
+        -- `to`
+        use2 W (raw (To 𝓤 H A mem run .pre (to-to r₀ u₀))) (goes-to r₀ u₀) $
+        calls-at ! fm (To 𝓤 H A mem run) known-to (to-to r₀ u₀) (and-then ! (load ! (from ! (stop !)) (look ! 2 refl)) (and-then ! (load ! (from ! (stop !)) (look ! 6 refl)) (no-more !))) (λ u₁.
+        use1 W (later (some (λ (r : Reader). ((‵ (flft κ q) ⊛ ‵ ftrue) ⊛ ‵ (B (κ, tt) .own r (u₁ ∷ []))) ⊛ raw (ensured 𝓤 H A to.ended (to.clauses 𝓤 H A mem run) (κ, tt) (r₀, (n, tt)) tt r)))) (id⊢ 𝓤 _) $ await ! tt $ pick ! (λ r₁.
+        split ! $ move ! (1 ∷ []) $ use1 W (raw (fact 𝓤 ((r₁ .src ≡ r₀ .src) × (r₁ .at ≡ n)))) (to-said r₀ r₁) $ heard ! ((r₁ .src ≡ r₀ .src) × (r₁ .at ≡ n)) (λ e₁. split ! $ move ! (1 ∷ []) $
+        peeks ! (B (κ, tt)) (Is (B (κ, tt))) (shows 𝓤 H A (B (κ, tt))) r₁ (u₁ ∷ []) (λ is₁.
+        land ! (from ! (stop !)) (init ! 5 refl (LL.lawful (T.the-type αᵉ) (T′.the-laws αᵉ) 𝓤 H A W .typed r₁ _ is₁ .0)) $
+        -- `head`
+        use2 W (raw (Head 𝓤 H A mem run .pre (to-head r₁ u₁))) (goes-head r₁ u₁) $
+        calls-at ! fm (Head 𝓤 H A mem run) known-head (to-head r₁ u₁) (and-then ! (load ! (from ! (stop !)) (look ! 4 refl)) (no-more !)) (λ u.
+        use1 W (later (some (λ (t : Heading). ((‵ (flft κ q) ⊛ ‵ ftrue) ⊛ ‵ (S.the-row .own t (u ∷ []))) ⊛ raw (ensured 𝓤 H A head.ended (head.clauses 𝓤 H A mem run) (κ, tt) (r₁, tt) tt t)))) (id⊢ 𝓤 _) $ await ! tt $ pick ! (λ t.
+        split ! $ move ! (1 ∷ []) $ use1 W (raw (fact 𝓤 (t ≡ headAt (now (r₁ .src)) (r₁ .at)))) (head-said r₁ t) $ heard ! (t ≡ headAt (now (r₁ .src)) (r₁ .at)) (λ e. split ! $ move ! (1 ∷ []) $
+        -- [the result; the token; what s owns; _4; …; _3; …; _2; …; _1; …; room for _0; …]
+        peeks ! S.the-row (Is S.the-row) (shows 𝓤 H A S.the-row) t (u ∷ []) (λ is.
+        land ! (from ! (stop !)) (init ! 11 refl (EL.lawful S.the-type S′.the-laws 𝓤 H A W tt .typed t _ is .0)) $
+        returns ! (look ! 11 refl) $ forget ! 3 refl $ forget ! 5 refl $ forget ! 7 refl $ forget ! 9 refl $ forget ! 11 refl $ move ! (11 ∷ 12 ∷ []) $ free1 ! $ move ! (9 ∷ 10 ∷ []) $ free1 ! $ move ! (7 ∷ 8 ∷ []) $ free1 ! $ move ! (5 ∷ 6 ∷ []) $ free1 ! $ move ! (3 ∷ 4 ∷ []) $ free1 ! $ free0 ! $
+        by ! (exits t u (e ∙ (ap (λ (x : RefT (List ℕ)). headAt (now x) (r₁ .at)) (e₁ .0 ∙ e₀ .0) ∙ ap (headAt (now s)) (e₁ .1)))))))))))))))))))))
 
 module _ {M : Type 1} (𝓤 : URA M) (H : Heap 𝓤) (A : Atoms 𝓤) (W : Given 𝓤 H A) (mem : Memory → SProp 𝓤) (run : Routine → Fun 𝓤) where
-  head-at-walks : (C : Calls 𝓤 H) (Λ : Loops 𝓤 H) → FmC 𝓤 H (W .laws) C → Triple 𝓤 (C #syntax·new) (New 𝓤 H A mem run) → Triple 𝓤 (C #syntax·head) (Head 𝓤 H A mem run)
+  head-at-walks : (C : Calls 𝓤 H) (Λ : Loops 𝓤 H) → FmC 𝓤 H (W .laws) C → Triple 𝓤 (C #syntax·new) (New 𝓤 H A mem run) → Triple 𝓤 (C #syntax·to) (To 𝓤 H A mem run) → Triple 𝓤 (C #syntax·head) (Head 𝓤 H A mem run)
       → Walks 𝓤 H A at-place.ended stayed (WpFn 𝓤 H C Λ code.function) (at-place.clauses 𝓤 H A mem run)
-  head-at-walks C Λ fm known-new known-head = walked 𝓤 H A at-place.ended stayed (at-place.clauses 𝓤 H A mem run) (WpFn 𝓤 H C Λ code.function) (λ κs. (slice-vals, (uint-vals w64, tt))) (λ κs. (shr-slice-tells (named 0) (κs .0) u8, (uint-tells w64, tt)))
-      (λ κs qs bounds a g are. via 𝓤 _ (fst∗ 𝓤 _ (emp 𝓤)) (walk 𝓤 H A W mem run (κs .0) (qs .0) (a .0) (a .1 .0) (are .1 .0 .1) C Λ fm known-new known-head (are .0)))
+  head-at-walks C Λ fm known-new known-to known-head = walked 𝓤 H A at-place.ended stayed (at-place.clauses 𝓤 H A mem run) (WpFn 𝓤 H C Λ code.function) (λ κs. (slice-vals, (uint-vals w64, tt))) (λ κs. (shr-slice-tells (named 0) (κs .0) u8, (uint-tells w64, tt)))
+      (λ κs qs bounds a g are. via 𝓤 _ (fst∗ 𝓤 _ (emp 𝓤)) (walk 𝓤 H A W mem run (κs .0) (qs .0) (a .0) (a .1 .0) (are .1 .0 .1) C Λ fm known-new known-to known-head (are .0)))
 
 head-at-meets : {M : Type 1} (𝓤 : URA M) (H : Heap 𝓤) (A : Atoms 𝓤) (W : Given 𝓤 H A) (mem : Memory → SProp 𝓤) (run : Routine → Fun 𝓤) (𝓣 : Tables 𝓤 H)
-    → Triple 𝓤 (𝓣 .C #syntax·new) (New 𝓤 H A mem run) → Triple 𝓤 (𝓣 .C #syntax·head) (Head 𝓤 H A mem run)
+    → Triple 𝓤 (𝓣 .C #syntax·new) (New 𝓤 H A mem run) → Triple 𝓤 (𝓣 .C #syntax·to) (To 𝓤 H A mem run) → Triple 𝓤 (𝓣 .C #syntax·head) (Head 𝓤 H A mem run)
     → Meets 𝓤 H A at-place.signature (WpFn 𝓤 H (𝓣 .C) (𝓣 .Λ) code.function) (at-place.spec 𝓤 H A mem run)
-head-at-meets 𝓤 H A W mem run 𝓣 known-new known-head = walk-meets 𝓤 H A at-place.ended stayed W (goes-none-slice 𝓤 H A W 1 (0 ∷ []) tt (plain (λ _. u8)) yes, (goes-none 𝓤 H A W 1 (λ _. usize) yes (λ κs x f. refl), tt)) (at-place.clauses 𝓤 H A mem run) (WpFn 𝓤 H (𝓣 .C) (𝓣 .Λ) code.function) (WpFn-mono 𝓤 H (W .laws) 𝓣 code.function)
-    (head-at-walks 𝓤 H A W mem run (𝓣 .C) (𝓣 .Λ) (fmOf 𝓤 H (W .laws) 𝓣) known-new known-head)
+head-at-meets 𝓤 H A W mem run 𝓣 known-new known-to known-head = walk-meets 𝓤 H A at-place.ended stayed W (goes-none-slice 𝓤 H A W 1 (0 ∷ []) tt (plain (λ _. u8)) yes, (goes-none 𝓤 H A W 1 (λ _. usize) yes (λ κs x f. refl), tt)) (at-place.clauses 𝓤 H A mem run) (WpFn 𝓤 H (𝓣 .C) (𝓣 .Λ) code.function) (WpFn-mono 𝓤 H (W .laws) 𝓣 code.function)
+    (head-at-walks 𝓤 H A W mem run (𝓣 .C) (𝓣 .Λ) (fmOf 𝓤 H (W .laws) 𝓣) known-new known-to known-head)
 
 pub head-at-spec : {M : Type 1} → stated.statement M
 unfolding code.routine tablesOf
@@ -169,4 +195,5 @@ head-at-spec 𝓤 H 𝓜 𝓖 𝓡 =
     (tables 𝓤 H 𝓜 𝓡 code.env .C) (tables 𝓤 H 𝓜 𝓡 code.env .Λ) #syntax·head-at code.function (code.unfolded 𝓤 H 𝓜 𝓡)
     (head-at-meets 𝓤 H (𝓖 .A) (givenOf 𝓤 H 𝓜 𝓖) (𝓜 .mem) (𝓡 .run) (tablesOf 𝓤 H 𝓜 (tables 𝓤 H 𝓜 𝓡 code.env))
     (cited 𝓤 H (New 𝓤 H (𝓖 .A) (𝓜 .mem) (𝓡 .run)) 𝓜 𝓡 code.env #syntax·new new-def.routine code.calls-syntax·cursor·Reader·new (new-thm.met 𝓤 H 𝓜 𝓖 𝓡))
+    (cited 𝓤 H (To 𝓤 H (𝓖 .A) (𝓜 .mem) (𝓡 .run)) 𝓜 𝓡 code.env #syntax·to to-def.routine code.calls-syntax·cursor·Reader·to (to-thm.met 𝓤 H 𝓜 𝓖 𝓡))
     (cited 𝓤 H (Head 𝓤 H (𝓖 .A) (𝓜 .mem) (𝓡 .run)) 𝓜 𝓡 code.env #syntax·head head-def.routine code.calls-syntax·cursor·Reader·head (head-thm.met 𝓤 H 𝓜 𝓖 𝓡)))

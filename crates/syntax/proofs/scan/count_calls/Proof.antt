@@ -20,11 +20,11 @@ abbrev μ-loop : tie.MeasureT-loop
 loop-holds : tie.Need-loop-holds Inv-loop μ-loop
 loop-holds c = (omega arith, length-replicate {A = ℕ} 131073 0, (length (c .before .args .s .now), omega arith, refl))
 
-slice-aggregate-skip-call : tie.Need-slice-aggregate-skip-call Inv-loop μ-loop
-slice-aggregate-skip-call c = search needs
+slice-aggregate-past-at : tie.Need-slice-aggregate-past-at Inv-loop μ-loop
+slice-aggregate-past-at c = search needs
 
-skip-call-requires : tie.Need-skip-call-requires Inv-loop μ-loop
-skip-call-requires c κs = search needs
+past-at-requires : tie.Need-past-at-requires Inv-loop μ-loop
+past-at-requires c κs = search needs
 
 enum-known-next : tie.Need-enum-known-next Inv-loop μ-loop
 enum-known-next c = search needs
@@ -33,24 +33,24 @@ enum-known-next-2 : tie.Need-enum-known-next-2 Inv-loop μ-loop
 enum-known-next-2 c = search needs
 
 returns : tie.Need-returns Inv-loop μ-loop
-returns c = sym (c .before .before .before .before .before .before .before .loop .inv .2 .2 ∙ calls-bad _ (c .before .before .before .before .before .before .before .before .before .args .s .now) _ _ _ (c .before .before .before .before .before .before .before .loop .at) _ (c .before .before .before .before .before .before .loop-test .taken) (c .before .before .before .before .before .before .before .loop .inv .2 .1) (sym (c .before .next2 .given .1) ∙ c .before .before .before .before .skip-call .ensures))
+returns c = sym (c .before .before .before .before .before .before .before .loop .inv .2 .2 ∙ calls-bad _ (c .before .before .before .before .before .before .before .before .before .args .s .now) _ _ _ (c .before .before .before .before .before .before .before .loop .at) _ (c .before .before .before .before .before .before .loop-test .taken) (c .before .before .before .before .before .before .before .loop .inv .2 .1) (sym (c .before .next2 .given .1) ∙ c .before .before .before .before .past-at .ensures))
 
 enum-told : tie.Need-enum-told Inv-loop μ-loop
 enum-told c = search needs
 
 returns-2 : tie.Need-returns-2 Inv-loop μ-loop
-returns-2 c = absurd (never-short _ (call-at (c .before .before .before .before .before .before .before .before .args .s .now) (c .before .before .before .before .before .before .loop .at)) (le-ltb _ _ (room _ _ (c .before .before .before .before .before .before .before .before .pre) (c .before .before .before .before .before .before .loop .inv .1))) (sym (c .enum-told .given .1) ∙ c .before .before .before .skip-call .ensures))
+returns-2 c = absurd (never-short _ (call-at (c .before .before .before .before .before .before .before .before .args .s .now) (c .before .before .before .before .before .before .loop .at)) (le-ltb _ _ (room _ _ (c .before .before .before .before .before .before .before .before .pre) (c .before .before .before .before .before .before .loop .inv .1))) (sym (c .enum-told .given .1) ∙ c .before .before .before .past-at .ensures))
 
 add-calls : tie.Need-add-calls Inv-loop μ-loop
 add-calls c = search needs
 
 loop-less : tie.Need-loop-less Inv-loop μ-loop
-loop-less c = omega (arith, c .before .before .before .before .before .before .loop-test .taken, past-call _ (c .before .before .before .before .before .before .before .before .before .args .s .now) (c .before .before .before .before .before .before .before .loop .at) _ (sym (c .before .next .given .1) ∙ c .before .before .before .before .skip-call .ensures) .2)
+loop-less c = omega (arith, c .before .before .before .before .before .before .loop-test .taken, past-call _ (c .before .before .before .before .before .before .before .before .before .args .s .now) (c .before .before .before .before .before .before .before .loop .at) _ (sym (c .before .next .given .1) ∙ c .before .before .before .before .past-at .ensures) .2)
 
 loop-again : tie.Need-loop-again Inv-loop μ-loop
 loop-again c =
-    let on = calls-on _ (c .before .before .before .before .before .before .before .before .before .args .s .now) _ (c .before .before .before .before .before .before .before .loop .inv .2 .0) (c .before .before .before .before .before .before .before .loop .calls) (c .before .before .before .before .before .before .before .loop .at) _ (c .before .before .before .before .before .before .loop-test .taken) (c .before .before .before .before .before .before .before .loop .inv .2 .1) (sym (c .before .next .given .1) ∙ c .before .before .before .before .skip-call .ensures) in
-    (omega (arith, past-call _ (c .before .before .before .before .before .before .before .before .before .args .s .now) (c .before .before .before .before .before .before .before .loop .at) _ (sym (c .before .next .given .1) ∙ c .before .before .before .before .skip-call .ensures) .2, c .before .before .before .before .before .before .before .loop .inv .0), omega (arith, c .before .before .before .before .skip-call .kept .1 .1 .0, c .before .before .before .before .before .before .before .loop .inv .1), (on .0, on .1, c .before .before .before .before .before .before .before .loop .inv .2 .2 ∙ on .2))
+    let on = calls-on _ (c .before .before .before .before .before .before .before .before .before .args .s .now) _ (c .before .before .before .before .before .before .before .loop .inv .2 .0) (c .before .before .before .before .before .before .before .loop .calls) (c .before .before .before .before .before .before .before .loop .at) _ (c .before .before .before .before .before .before .loop-test .taken) (c .before .before .before .before .before .before .before .loop .inv .2 .1) (sym (c .before .next .given .1) ∙ c .before .before .before .before .past-at .ensures) in
+    (omega (arith, past-call _ (c .before .before .before .before .before .before .before .before .before .args .s .now) (c .before .before .before .before .before .before .before .loop .at) _ (sym (c .before .next .given .1) ∙ c .before .before .before .before .past-at .ensures) .2, c .before .before .before .before .before .before .before .loop .inv .0), omega (arith, c .before .before .before .before .past-at .kept .1 .1 .0, c .before .before .before .before .before .before .before .loop .inv .1), (on .0, on .1, c .before .before .before .before .before .before .before .loop .inv .2 .2 ∙ on .2))
 
 returns-3 : tie.Need-returns-3 Inv-loop μ-loop
 returns-3 c = sym (c .before .loop .inv .2 .2 ∙ calls-done (c .before .before .before .args .s .now) _ (c .before .loop .inv .2 .0) _ (c .before .loop .at) (c .loop-test .left))
@@ -62,8 +62,8 @@ count-calls-spec =
     Inv-loop
     μ-loop
     loop-holds
-    slice-aggregate-skip-call
-    skip-call-requires
+    slice-aggregate-past-at
+    past-at-requires
     enum-known-next
     enum-known-next-2
     returns

@@ -11,8 +11,8 @@ returns : tie.Need-returns
 unfolding unless-long
 returns c = rw (lt-ltb _ _ (c .if1 .taken))
 
-read-limit-requires : tie.Need-read-limit-requires
-read-limit-requires c κs = search needs
+limit-of-requires : tie.Need-limit-of-requires
+limit-of-requires c κs = search needs
 
 enum-known-limit : tie.Need-enum-known-limit
 enum-known-limit c = search needs
@@ -25,18 +25,18 @@ count-calls-requires c κs = search needs
 
 returns-2 : tie.Need-returns-2
 unfolding unless-long
-returns-2 c = rw (le-ltb _ _ (c .before .before .before .before .if1 .left), run-bad _ _ (sym (c .before .limit .given .1) ∙ c .before .before .before .read-limit .ensures))
+returns-2 c = rw (le-ltb _ _ (c .before .before .before .before .if1 .left), run-bad _ _ (sym (c .before .limit .given .1) ∙ c .before .before .before .limit-of .ensures))
 
 returns-3 : tie.Need-returns-3
 unfolding unless-long
-returns-3 c = rw (le-ltb _ _ (c .before .before .before .before .before .if1 .left), run-on _ _ (sym (c .before .before .limit2 .given .1) ∙ c .before .before .before .before .read-limit .ensures)) (c .count-calls .ensures)
+returns-3 c = rw (le-ltb _ _ (c .before .before .before .before .before .if1 .left), run-on _ _ (sym (c .before .before .limit2 .given .1) ∙ c .before .before .before .before .limit-of .ensures)) (c .count-calls .ensures)
 
 pub scan-run-spec : {M : Type 1} → statement M
 scan-run-spec =
     tie.close
     (tie.spec
     returns
-    read-limit-requires
+    limit-of-requires
     enum-known-limit
     enum-known-limit-2
     count-calls-requires
