@@ -6,7 +6,7 @@ set -eu
 root=$(cd "$(dirname "$0")/.." && pwd)
 copy=$(mktemp -d)
 trap 'rm -rf "$copy"' EXIT
-cp -R "$root/crates" "$root/crates.txt" "$root/tools" "$copy"
+cp -R "$root/crates" "$root/crates.txt" "$root/docs" "$root/tools" "$copy"
 cd "$copy"
 # What isn't written again must be missed.
 rm -f crates/*/specs/Opened.antt crates/link/specs/Tables.antt
@@ -14,4 +14,5 @@ tools/all.sh tables
 python3 tools/prove.py ast index cells/put_cell cells/find_look
 rt fmt
 diff -r "$root/crates" crates
+diff -r "$root/docs" docs
 echo "as written"
