@@ -47,9 +47,7 @@ impl State {
             (Zero, _) => (r.clone(), "0", vec![]),
             (One, _) => (r.clone(), "1", vec![]),
             (Dim(n), Some(with)) if *n == k => (with.clone(), "dim.hit", vec![]),
-            (Dim(n), _) if *n < k => {
-                (r.clone(), "dim.lt", vec![self.comparison(*n, k, true)?])
-            }
+            (Dim(n), _) if *n < k => (r.clone(), "dim.lt", vec![self.comparison(*n, k, true)?]),
             (Dim(n), None) => {
                 let row = self.comparison(k, *n, false)?;
                 (Rc::new(Dim(n + 1)), "dim.ge", vec![row])

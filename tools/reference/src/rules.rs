@@ -33,9 +33,9 @@ const GROUPS: [(&str, &str); 23] = [
 
 /// A rule's number.
 pub fn number(name: &str) -> usize {
-    let names = GROUPS.iter().flat_map(|(before, after)| {
-        after.split(' ').map(move |after| format!("{before}.{after}"))
-    });
+    let names = GROUPS
+        .iter()
+        .flat_map(|(before, after)| after.split(' ').map(move |after| format!("{before}.{after}")));
     let place = names.into_iter().position(|n| n == name);
     place.unwrap_or_else(|| panic!("no rule is named {name}"))
 }
