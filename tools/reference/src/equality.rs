@@ -11,6 +11,9 @@ const REDUCTIONS: usize = 32;
 /// What a term reduces to, and the equality's row.
 pub type Reduced = (T, usize);
 
+/// One reduction of a term in a scope, if there is one.
+type Step = fn(&mut State, u32, &[T], &T) -> Result<Option<Reduced>>;
+
 impl State {
     /// A row for left = right at a type.
     pub fn equality(
@@ -147,7 +150,7 @@ impl State {
         g: &[T],
         t: &T,
         ty: &T,
-        step: fn(&mut Self, u32, &[T], &T) -> Result<Option<Reduced>>,
+        step: Step,
     ) -> Result<Reduced> {
         let typed = self.check(d, g, t, ty)?;
         let mut row = self.equality("eq.refl", vec![typed], d, g, (t, t, ty))?;

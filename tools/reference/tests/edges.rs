@@ -94,6 +94,10 @@ fn said(ran: &Ran, wish: &str, call: &mut usize) -> String {
             let words = std::iter::once(row as u32).chain(ran.rows[row].args.iter().copied());
             join(words.map(|w| w.to_string()).collect())
         }
+        "deepest" => {
+            let call = numbers(rest)[0];
+            format!("deepest {call} {}", ran.answers[call as usize].deepest)
+        }
         "made" => join(ran.rows.iter().map(|row| row.made.to_string()).collect()),
         "repeats" => {
             let mut text = String::new();
