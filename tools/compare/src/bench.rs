@@ -22,7 +22,7 @@ pub const KINDS: &[(&str, &str, u64)] = &[
     ("long", "a table filled by long intervals", 1),
     ("deeps", "65,536 bytes of deep calls", 1),
     ("functions", "a table filled by towers of functions", 1),
-    ("dimensions", "a table filled by towers of paths", 1),
+    ("dimensions", "65,536 bytes of towers of paths", 1),
     ("annotations", "10,013 lams that differ in their annotation alone", 1),
     ("meeting", "paths whose hashes meet", 1),
     ("parted", "as many paths whose hashes do not", 1),

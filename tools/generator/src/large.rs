@@ -84,11 +84,12 @@ fn functions(random: &mut Random, i: usize) -> Call {
     Call::new(2, random.below(34), &[], &[tower])
 }
 
-/// A tower of paths: a square of a constant, over a line of types.
+/// A tower of paths: a cube of a number that stands at an interval.
 fn dimensions(random: &mut Random, i: usize) -> Call {
-    let level = random.below(30);
-    let (tower, _) = (0..4).fold((U(level), U(level + 1)), |(t, ty), _| {
+    let dimensions = 2 + i % 31;
+    let number = papp(plam(Nat, Zero), interval(random, 3, dimensions));
+    let (tower, _) = (0..3).fold((number, Nat), |(t, ty), _| {
         (plam(ty.dshift(), t.dshift()), path(ty.dshift(), t.clone(), t))
     });
-    Call::new(2, i % 34, &[], &[tower])
+    Call::new(2, dimensions, &[], &[tower])
 }
