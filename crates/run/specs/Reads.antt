@@ -13,7 +13,7 @@ use Rattle.walk.specs.Syntax.{Quotes}
 use Rattle.walk.specs.Judgment.{Judgment, has}
 use Rattle.walk.specs.State.{Row, Thing, thing?, among}
 use Rattle.walk.specs.Demand.{At, here, there, Row-at, newest, older, All-below, no-number, below}
-use Rattle.link.specs.Table.{_>>=_, lower, quote-at, context-at, concluding, no-reading, row-word, cited-at, row-at, table-at, a-quote, read-has, Among, this-thing, other-thing}
+use Rattle.link.specs.Table.{_>>=_, lower, quote-at, context-at, concluding, row-word, cited-at, row-at, table-at, a-quote, read-has, Among, this-thing, other-thing}
 
 pub nothing : {A : Type 0} {a : A} → none ≡ some a → ⊥
 nothing q = let z : _≡_ {A = ℕ} 0 1 = cc in omega arith
@@ -65,13 +65,13 @@ table-read (ℕ.suc m) n R C table e = go (row-at n R C m) (table-at m n R C) re
 -- the rows that it cites, and its judgment by what its rule concludes
 pub record Row-parts (n : ℕ) (R C : List ℕ) (i : ℕ) (row : Row) : Type 0 where
   pub cited : cited-at R i ≡ row .refs
-  pub judgment : getD concluding (row .rule) no-reading n C (row-word 13 R i) (row-word 14 R i) (row-word 15 R i) (row-word 16 R i) (row-word 17 R i) ≡ some (row .judgment)
+  pub judgment : concluding (row .rule) n C (row-word 13 R i) (row-word 14 R i) (row-word 15 R i) (row-word 16 R i) (row-word 17 R i) ≡ some (row .judgment)
 
 pub row-parts : (n : ℕ) (R C : List ℕ) (i : ℕ) (row : Row) → row-at n R C i ≡ some row → Row-parts n R C i row
 unfolding row-at _>>=_
-row-parts n R C i row e = go (getD concluding (row-word 0 R i) no-reading n C (row-word 13 R i) (row-word 14 R i) (row-word 15 R i) (row-word 16 R i) (row-word 17 R i)) refl e
+row-parts n R C i row e = go (concluding (row-word 0 R i) n C (row-word 13 R i) (row-word 14 R i) (row-word 15 R i) (row-word 16 R i) (row-word 17 R i)) refl e
   where
-    go : (o : Option Judgment) → getD concluding (row-word 0 R i) no-reading n C (row-word 13 R i) (row-word 14 R i) (row-word 15 R i) (row-word 16 R i) (row-word 17 R i) ≡ o → (o >>= λ j. some (record { rule = row-word 0 R i; refs = cited-at R i; judgment = j })) ≡ some row → Row-parts n R C i row
+    go : (o : Option Judgment) → concluding (row-word 0 R i) n C (row-word 13 R i) (row-word 14 R i) (row-word 15 R i) (row-word 16 R i) (row-word 17 R i) ≡ o → (o >>= λ j. some (record { rule = row-word 0 R i; refs = cited-at R i; judgment = j })) ≡ some row → Row-parts n R C i row
     go none q f = absurd (nothing f)
     go (some j) q f = let k : record { rule = row-word 0 R i; refs = cited-at R i; judgment = j } ≡ row = cc in subst (λ (x : Row). Row-parts n R C i x) k (record { cited = refl; judgment = q })
 

@@ -12,12 +12,13 @@ use lib.ListN.{length, getD, replicate}
 use Rattle.walk.specs.Syntax.{Term, Universe, Var, Nat, Zero, Pi, Lam, nat, zero, v, pi, lam, nil, cons, quote}
 use Rattle.walk.specs.Judgment.{Judgment, has}
 use Rattle.walk.specs.Rule as R
+use Rattle.walk.specs.Rule.{kind-of}
 use Rattle.walk.specs.State.{State, Row, Thing, term, interval, context, inference, key, among}
 use Rattle.walk.specs.Reader.{c-infer, c-check, Call}
 use Rattle.walk.specs.Run.{Answer, Result, no-result, a-level, a-term, scope-of, play-all, start}
 use Rattle.walk.specs.Demand.{At, Row-at, newest, older, All-below, of-none, of-answer, judgment-of}
 use Rattle.walk.specs.Opened.{opened}
-use Rattle.link.specs.Table.{_>>=_, kind-word, part, lower, interval-at, term-by, term-at, scope-at, Holds-thing, cited-at, row-at, table-at, Answer-at, this-answer, later-answer, this-call, later-call, Among, Stays}
+use Rattle.link.specs.Table.{_>>=_, kind-word, part, lower, interval-at, term-by, term-at, scope-at, Holds-thing, cited-at, concluding, read-has, row-at, table-at, Answer-at, this-answer, later-answer, this-call, later-call, Among, Stays}
 use Rattle.run.specs.declared.entry.Ran.{Ran}
 use Rattle.run.specs.Contract.{walked, numbers-of, Derived, Runs}
 use Rattle.run.specs.Reads.{nothing, high, low, Row-read, table-read, row-parts, all-below, row-same, row-states, states-same, named, lacks}
@@ -201,6 +202,10 @@ second-lam f C c t h e = go (lower c (term-at (suc f) C) (part 1 C c)) (lower c 
     go (some x) none f g q = absurd (nothing q)
     go (some x) (some y) f g q = let a = f x refl in let b = g y refl in let k : Lam x y ≡ t = cc in sym k ∙ rw (a, b)
 
+type-lam-reads : concluding R.type·lam ≡ read-has
+unfolding kind-of
+type-lam-reads = refl
+
 -- an older row names that cell in place of lam(nat, zero), whose quote is the same: `stays`
 module _ {R C : List ℕ} (s : Stays again-left R C) where
   in-use : getD R 135 0 < 11
@@ -212,7 +217,7 @@ module _ {R C : List ℕ} (s : Stays again-left R C) where
           let t = table-read 6 11 R C (again-left .rows) (rw (again-rows, again-cells) at (s .rows)) in
           let x = t .each 5 (lit< tt) in
           let p = row-parts 11 R C 5 again-row (x .read ∙ ap some (row-same (x .at) again-last)) in
-          absurd (named 11 C _ _ _ _ _ _ (p .judgment) (omega arith))
+          absurd (named 11 C _ _ _ _ _ _ (rw type-lam-reads at (p .judgment)) (omega arith))
 
   renamed : Second-lam C (getD R 135 0) → ⊥
   unfolding interval-at scope-at _>>=_
