@@ -50,7 +50,7 @@ fault() {
 
 fault 'no fault' '' '' ''
 fault "a lam's annotation is quoted" ast/src/cells.rt \
-    '    if kind == kinds::LAM {' '    if kind == kinds::PLAM {'
+    '        kinds::LAM => true,' '        kinds::LAM => false,'
 fault 'two premises are cited the wrong way round' producer/src/typing.rt \
     '                let refs = cite2(x, y);' '                let refs = cite2(y, x);'
 fault '20 while there is space' run/src/entry.rt \

@@ -126,16 +126,26 @@ pub fn table(kinds: &[&str], repeats: usize) -> Result<()> {
             continue;
         }
         let size = sizes(kind)?;
+        // At a nesting limit of 1 nothing is walked, and the source has no work.
+        let walked = generator::bench(kind).is_some_and(|case| case.bytes[..2] != [1, 0]);
         let mut sides = [Vec::new(), Vec::new()];
         // In turn, so that both sides meet the machine's other work alike.
         for _ in 0..repeats {
             sides[0].push(measured("program", kind, *times)?);
-            sides[1].push(measured("source", kind, *times)?);
+            if walked {
+                sides[1].push(measured("source", kind, *times)?);
+            }
         }
-        let [ours, theirs] = sides.map(spread);
         let show = |[a, b, c]: [f64; 3]| format!("{a:.3} {b:.3} {c:.3}");
-        let ratio = ours[1] / theirs[1];
-        println!("{said} | {size} | {} | {} | {ratio:.2}", show(ours), show(theirs));
+        let [ours, theirs] = sides;
+        let ours = spread(ours);
+        if walked {
+            let theirs = spread(theirs);
+            let ratio = ours[1] / theirs[1];
+            println!("{said} | {size} | {} | {} | {ratio:.3}", show(ours), show(theirs));
+        } else {
+            println!("{said} | {size} | {} | - | -", show(ours));
+        }
     }
     Ok(())
 }
