@@ -11,8 +11,9 @@ from collections import namedtuple
 Part = namedtuple('Part', 'name sort shown under')
 
 # byte: in a run, and word 0 of its cell. name: as the listing prints it, and the quote's constructor. node: the definition's
-# constructor. word: its name in the program and in lemmas. tag: its name in rules and in the reader.
-Kind = namedtuple('Kind', 'byte name node parts word tag')
+# constructor. word: its name in the program and in lemmas. tag: its name in rules and in the reader. taken: where the walk takes a term
+# of this kind apart to see whether it is one, the name of what gives its parts.
+Kind = namedtuple('Kind', 'byte name node parts word tag taken')
 Judgment = namedtuple('Judgment', 'number name parts meaning')
 Rule = namedtuple('Rule', 'number name judgment')
 Call = namedtuple('Call', 'code name terms enters')
@@ -30,22 +31,22 @@ def parts(text):
     return out
 
 
-def kind(byte, name, node, text='', word=None, tag=None):
-    return Kind(byte, name, node, parts(text), word or name, tag or name)
+def kind(byte, name, node, text='', word=None, tag=None, taken=None):
+    return Kind(byte, name, node, parts(text), word or name, tag or name, taken)
 
 
 # ---- Kinds. Parts stand in the order of the bytes, and in words 1 to 3 of a cell.
 
 TERMS = [
-    kind(1, 'u', 'Universe', 'n: number', word='universe'),
+    kind(1, 'u', 'Universe', 'n: number', word='universe', taken='level'),
     kind(2, 'v', 'Var', 'n: number', word='var'),
     kind(3, 'nat', 'Nat'),
     kind(4, 'zero', 'Zero'),
-    kind(5, 'pi', 'Pi', 'A: term; B: term under a variable'),
-    kind(6, 'lam', 'Lam', 'A: term, not shown; b: term under a variable'),
+    kind(5, 'pi', 'Pi', 'A: term; B: term under a variable', taken='pi-parts'),
+    kind(6, 'lam', 'Lam', 'A: term, not shown; b: term under a variable', taken='lam-parts'),
     kind(7, 'app', 'App', 'f: term; a: term'),
-    kind(8, 'path', 'Path', 'A: term under a dimension; b: term; c: term'),
-    kind(9, 'plam', 'PathLam', 'A: term under a dimension, not shown; b: term under a dimension'),
+    kind(8, 'path', 'Path', 'A: term under a dimension; b: term; c: term', taken='path-parts'),
+    kind(9, 'plam', 'PathLam', 'A: term under a dimension, not shown; b: term under a dimension', taken='plam-parts'),
     kind(10, 'papp', 'PathApp', 'p: term; r: interval'),
 ]
 

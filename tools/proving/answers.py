@@ -1,4 +1,5 @@
 """What the proofs of single functions need beyond the rules: names to unfold, loop invariants, answers by hand."""
+from language import TERMS
 
 # Further names to unfold.
 UNFOLD = {
@@ -23,7 +24,7 @@ UNFOLD = {
 }
 
 # The laws of a shape that is unlike the one taken apart, by the tag of the latter.
-UNLIKE = ['law.not-universe', 'law.not-pi', 'law.not-lam', 'law.not-path', 'law.not-plam']
+UNLIKE = ['law.not-' + kind.word for kind in TERMS if kind.taken]
 
 # Calls whose `ensures` says what an answer is, and not what a step of the definition is.
 FORWARD = ('as-got', 'as-function', 'as-four', 'as-inferred', 'as-reduced', 'as-two', 'as-round')

@@ -1,6 +1,7 @@
 """What stands in a generated Lts (rt dev NAME --generated DIR): for each need, the facts on the way to it, in order."""
 from collections import namedtuple
 import re
+from .answers import UNLIKE
 
 # A fact: its path from the need, its name, its own fields (of a call none), the place before it.
 Fact = namedtuple('Fact', 'path name own before')
@@ -79,7 +80,7 @@ def rules(facts):
             if not enum:
                 out.append(('key', name, at))
             elif 'Shape.the-type' in type and len(tags) > 1:
-                out.append(('unlike', [x for x in range(6) if x not in tags][0], at))
+                out.append(('unlike', [x for x in range(len(UNLIKE) + 1) if x not in tags][0], at))
             enum = enum and len(tags) == 1
         elif 'rest' in fields:
             enum = 'tagOf' in fields['rest']

@@ -20,11 +20,11 @@ class Crate:
             if dep not in DEFINED:
                 self.unfoldable.update(unfoldable(dep, dep == name))
             self.laws.update(laws(dep, dep == name))
-        # the definitions that the one name `steps` unfolds
+        # the definitions that the one name `steps` unfolds, and what it has them from
         self.steps = []
         if os.path.exists(self.proofs + '/Steps.antt'):
             self.unfoldable['steps'] = self.module('Steps')
-            self.steps = re.search(r'^unfolding (.*)$', open(self.proofs + '/Steps.antt').read(), re.M).group(1).split()
+            self.steps = ' '.join(re.findall(r'^unfolding (.*)$', open(self.proofs + '/Steps.antt').read(), re.M)).split()
 
     def module(self, path):
         "the name of a module below the crate's proofs"

@@ -99,6 +99,22 @@ def cells(parts):
     return [p for p in parts if p.sort != 'number']
 
 
+# Kinds of terms with one rule for each transform: all but variables.
+TRANSFORMS = ('shift', 'subst', 'dshift', 'dsubst')
+RULED = [k for k in TERMS if all('%s.%s' % (t, k.tag) in [r.name for r in RULES] for t in TRANSFORMS)]
+TAKEN = [k for k in TERMS if k.taken]
+
+
+def one_taken(kind):
+    """What a lemma about a kind that is taken apart is named by: level, pi, lam."""
+    return kind.taken.replace('-parts', '')
+
+
+def variant(kind):
+    """Its name in the program's `Shape`."""
+    return kind.word.capitalize()
+
+
 def arrows(kind, types, result, parts):
     return ' → '.join([types[p.sort] for p in parts] + [result])
 
@@ -143,7 +159,11 @@ GROUPS = {
     'Tables': [['s-' + k.word for k in ALL], ['l-' + k.word for k in ALL], ['j-' + j.name for j in JUDGMENTS]],
     'Table': [['read-' + j.name for j in JUDGMENTS]],
     'Said': [['cell-' + k.tag for k in INTERVALS], ['cell-' + k.tag for k in TERMS]],
-    'Machine': [['make-' + k.word for k in ALL]],
+    'Machine': [['make-' + k.word for k in ALL], ['at-' + k.word for k in TAKEN], ['on-' + k.word for k in TAKEN]],
+    'Walk': [[k.taken for k in TAKEN], [k.tag + '-rule' for k in RULED]],
+    'Walk.Typing': [[k.taken for k in TAKEN]],
+    'Open': [['at-' + k.word for k in TAKEN]],
+    'declared.cells.Shape.the-variants': [[variant(k) for k in TAKEN]],
 }
 
 

@@ -1,6 +1,7 @@
 """The program: its constants, which are kinds of cells and refusals (crates/ast), judgments and rules (crates/producer); and what it asks
 of a kind, as a match on it, since a constant table would be made anew on the stack at each read."""
-from .common import ALL, CONTEXTS, INFERENCE, INTERVALS, JUDGMENTS, NOTE, RULES, TERMS, is_number, refusals, section, whole
+from .common import (ALL, CONTEXTS, INFERENCE, INTERVALS, JUDGMENTS, NOTE, RULED, RULES, TERMS, TRANSFORMS, is_number, refusals, section,
+                     whole)
 
 
 def constants(pairs):
@@ -50,6 +51,23 @@ def _():
 {constants([('IS_' + constant(j.name), j.number) for j in JUDGMENTS])}
 // Rules.
 {constants([(constant(r.name), r.number) for r in RULES])}'''
+
+
+# ---- Rules of the transforms, by kind (crates/producer)
+
+@section('crates/producer/src/transforms.rt', 'rules of a kind')
+def _():
+    out = []
+    for k in RULED:
+        out += ['kinds::%s => by_op(' % constant(k.word), '    op,']
+        out += ['    codes::%s,' % constant('%s.%s' % (t, k.tag)) for t in TRANSFORMS] + ['),']
+    return out
+
+
+@section('crates/producer/specs/Transforms.antt', 'rules of a kind')
+def _():
+    rules = [(k, '(by-op op %s)' % ' '.join('R.%s·%s' % (t, k.tag) for t in TRANSFORMS)) for k in RULED]
+    return ['rule-of op k = ' + tests(rules, '0')]
 
 
 # ---- Parts: which show in a quote (crates/ast), how many follow a kind's byte (crates/run)

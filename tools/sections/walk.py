@@ -1,6 +1,6 @@
 """crates/walk: the syntax, judgments, rules' numbers and names, the reader's tables, limits, the cells of what is counted."""
-from .common import (CALLS, INTERVALS, JUDGMENTS, NODE_TYPES, NOTE, QUOTE_TYPES, RULES, TERMS, antt_name, arrows,
-                     by_byte, is_number, judgment, nested, node, parts_of, refusals, section, shown, vars_of, whole)
+from .common import (CALLS, INTERVALS, JUDGMENTS, NODE_TYPES, NOTE, QUOTE_TYPES, RULED, RULES, TAKEN, TERMS, TRANSFORMS, antt_name, arrows,
+                     by_byte, is_number, judgment, nested, node, one_taken, parts_of, refusals, section, shown, vars_of, whole)
 
 SPECS = 'crates/walk/specs/'
 SYNTAX, JUDGMENT, READER, SIZES, STATE = (SPECS + f + '.antt' for f in ('Syntax', 'Judgment', 'Reader', 'Limits', 'State'))
@@ -159,6 +159,64 @@ def _():
         terms = [v if p.sort == 'term' else 'Nat' for p, v in parts_of(k)]
         return ' '.join(['seen k-' + k.tag, number] + (terms + ['Nat'] * 3)[:3])
     return ['view %s = %s' % (node(k), seen(k)) for k in TERMS]
+
+
+@section(SPECS + 'Walk/Transforms.antt', 'rules of a kind')
+def _():
+    out = []
+    for k in RULED:
+        numbers = ' '.join('R.%s·%s' % (t, k.tag) for t in TRANSFORMS)
+        out += ['abbrev pub %s-rule : Op → ℕ' % k.tag, '%s-rule op = by-op op %s' % (k.tag, numbers), '']
+    return out[:-1]
+
+
+PLACES = ['one', 'two', 'three']
+
+
+def seen_parts(k, view):
+    """The number, or the parts by their places."""
+    return [view + ' .number'] if is_number(k) else [view + ' .' + place for place in PLACES[:len(k.parts)]]
+
+
+def taken_type(k):
+    return ' × '.join(NODE_TYPES[p.sort] for p in k.parts)
+
+
+@section(SPECS + 'Walk/Typing.antt', 'parts of a kind')
+def _():
+    out = []
+    for k in TAKEN:
+        parts = ', '.join(seen_parts(k, 'view t'))
+        out += ['abbrev pub %s : Term → Option %s' % (k.taken, taken_type(k) if len(k.parts) == 1 else '(%s)' % taken_type(k)),
+                '%s t = of-kind k-%s (view t) (%s)' % (k.taken, k.tag, parts), '']
+    return out[:-1]
+
+
+PARTS = SPECS + 'Sound/Parts.antt'
+
+
+@section(PARTS, 'what a view says')
+def _():
+    def says(k):
+        return 't ≡ ' + ' '.join([k.node] + ['(%s)' % p for p in seen_parts(k, 'v')]) if k.taken else 'Unit {0}'
+    return ['Whole k-%s v t = %s' % (k.tag, says(k)) for k in TERMS]
+
+
+@section(PARTS, 'that it is so')
+def _():
+    return ['whole %s = %s' % (node(k), 'refl' if k.taken else 'tt') for k in TERMS]
+
+
+@section(PARTS, 'what the parts are of')
+def _():
+    out = []
+    for k in TAKEN:
+        name, of = one_taken(k) + '-is', taken_type(k)
+        parts = ['m'] if len(k.parts) == 1 else ['(m .%d)' % n for n in range(len(k.parts))]
+        made = ' '.join([k.node] + parts)
+        out += ['pub %s : (t : Term) (m : %s) → %s t ≡ some m → t ≡ %s' % (name, of, k.taken, made),
+                '%s t m e = let x = is-of k-%s t _ m e in x .0 ∙ ap (λ (m : %s). %s) (x .1)' % (name, k.tag, of, made), '']
+    return out[:-1]
 
 
 @section(READER, 'kinds')

@@ -83,7 +83,7 @@ module _ {o : Before} {rd : M (Unit {0})} (c : Callees) (d : D.Callees) (L : Lin
       pair-then _ _ (L .transform a (o-dsubst (cell-lift f₂ r))) λ _ z _ _ e₃ ty.
       let f₃ = extends-trans f₂ e₃ in
       at-plam _ _ (cell-lift f₃ p)
-      (λ _ _ body. pbeta-matches n x z (cell-lift f₃ g) (cell-lift f₃ t) (cell-lift f₃ r) body ty)
+      (λ _ _ _ _ _ _ body. pbeta-matches n x z (cell-lift f₃ g) (cell-lift f₃ t) (cell-lift f₃ r) body ty)
       (ends-matches n x z (cell-lift f₃ g) (cell-lift f₃ t) (cell-lift f₃ r) (cell-lift e₃ b) (cell-lift e₃ e) ty)
 
   pub reduce-matches : {xs : List Thing} {g t : ℕ} {g′ : Context} {t′ : Term} (n : ℕ) → Cell g (context g′) xs → Cell t (term t′) xs → Matches o xs (P.reduce-body c n g t) (B.reduce-body d n g′ t′) Steps

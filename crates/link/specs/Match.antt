@@ -8,7 +8,7 @@ use mathlib.Core.Bool.{Bool, true, false}
 use native.Mathlib.Decide.{decLt}
 use native.Mathlib.Omega.{arith}
 use lib.ListN.{length, getD, drop}
-use lib.Dec.{ltb}
+use lib.Dec.{ltb, lit<}
 use Rattle.ast.specs.Words.{ifb, up}
 use Rattle.ast.specs.Cells.{on-found, same-node, look-1, look-2, look-3}
 use Rattle.ast.specs.Nodes.{find-node, find-look, lowest-of, recall-of}
@@ -187,51 +187,51 @@ pub cite-0 : Cites no-refs []
 unfolding no-refs
 cite-0 = record { are = refl }
 
+-- one more, where there is room
+cite-on : {l : Refs} {ns : List ℕ} (x : ℕ) → length ns < 10 → Cites l ns → Cites (cons-refs x l) (x ∷ ns)
+unfolding cons-refs up
+cite-on {ns = ns} x m c = let e : (length ns + 1) % 4294967296 ≡ suc (length ns) = omega arith in record { are = rw (c .are, e) }
+
 pub cite-1 : {x : ℕ} → Cites (refs-1 x) (x ∷ [])
 unfolding refs-1
-cite-1 = record { are = refl }
+cite-1 = cite-on _ (lit< tt) cite-0
 
 pub cite-2 : {x y : ℕ} → Cites (refs-2 x y) (x ∷ y ∷ [])
 unfolding refs-2
-cite-2 = record { are = refl }
+cite-2 = cite-on _ (lit< tt) cite-1
 
 pub cite-3 : {x y z : ℕ} → Cites (refs-3 x y z) (x ∷ y ∷ z ∷ [])
 unfolding refs-3
-cite-3 = record { are = refl }
+cite-3 = cite-on _ (lit< tt) cite-2
 
 pub cite-4 : {x y z u : ℕ} → Cites (refs-4 x y z u) (x ∷ y ∷ z ∷ u ∷ [])
 unfolding refs-4
-cite-4 = record { are = refl }
+cite-4 = cite-on _ (lit< tt) cite-3
 
 pub cite-5 : {x y z u v : ℕ} → Cites (refs-5 x y z u v) (x ∷ y ∷ z ∷ u ∷ v ∷ [])
 unfolding refs-5
-cite-5 = record { are = refl }
+cite-5 = cite-on _ (lit< tt) cite-4
 
 pub cite-6 : {x₀ x₁ x₂ x₃ x₄ x₅ : ℕ} → Cites (refs-6 x₀ x₁ x₂ x₃ x₄ x₅) (x₀ ∷ x₁ ∷ x₂ ∷ x₃ ∷ x₄ ∷ x₅ ∷ [])
 unfolding refs-6
-cite-6 = record { are = refl }
+cite-6 = cite-on _ (lit< tt) cite-5
 
 pub cite-7 : {x₀ x₁ x₂ x₃ x₄ x₅ x₆ : ℕ} → Cites (refs-7 x₀ x₁ x₂ x₃ x₄ x₅ x₆) (x₀ ∷ x₁ ∷ x₂ ∷ x₃ ∷ x₄ ∷ x₅ ∷ x₆ ∷ [])
 unfolding refs-7
-cite-7 = record { are = refl }
+cite-7 = cite-on _ (lit< tt) cite-6
 
 pub cite-10 : {x₀ x₁ x₂ x₃ x₄ x₅ x₆ x₇ x₈ x₉ : ℕ} → Cites (refs-10 x₀ x₁ x₂ x₃ x₄ x₅ x₆ x₇ x₈ x₉) (x₀ ∷ x₁ ∷ x₂ ∷ x₃ ∷ x₄ ∷ x₅ ∷ x₆ ∷ x₇ ∷ x₈ ∷ x₉ ∷ [])
 unfolding refs-10
-cite-10 = record { are = refl }
+cite-10 = cite-on _ (lit< tt) (cite-on _ (lit< tt) (cite-on _ (lit< tt) cite-7))
 
 -- none or one
 pub data Few : Refs → List ℕ → Type 0 where
   no-row : Few no-refs []
   one-row : {x : ℕ} → Few (refs-1 x) (x ∷ [])
 
--- one more, where there is room
-cite-on : {l : Refs} {ns : List ℕ} (x : ℕ) → length ns < 10 → Cites l ns → Cites (cons-refs x l) (x ∷ ns)
-unfolding cons-refs up
-cite-on {ns = ns} x m c = let e : (length ns + 1) % 4294967296 ≡ suc (length ns) = omega arith in record { are = rw (c .are, e) }
-
 -- the few, then others
 pub cite-join : {k l : Refs} {ms ns : List ℕ} → Few k ms → length ns < 9 → Cites l ns → Cites (join-refs k l) (ms ++ ns)
-unfolding join-refs no-refs refs-1
+unfolding join-refs no-refs refs-1 cons-refs up
 cite-join no-row m c = c
 cite-join (one-row {x = x}) m c = cite-on x (omega arith) c
 

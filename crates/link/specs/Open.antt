@@ -8,12 +8,12 @@ use lib.Dec.{eqb, eqb→eq}
 use Rattle.ast.specs.Cells.{same-quote-of, shape-by, shape-of}
 use Rattle.ast.specs.declared.cells.Cell.{Cell as Words}
 use Rattle.ast.specs.declared.cells.Shape.{Shape as Form}
-use Rattle.ast.specs.declared.cells.Shape.the-variants.{Universe as form-universe, Pi as form-pi, Lam as form-lam, Path as form-path, Plam as form-plam, Other as form-other}
-use Rattle.producer.specs.Machine.{W, open-cell, on-universe, on-pi, on-lam, on-path, on-plam}
+use Rattle.ast.specs.declared.cells.Shape.the-variants as form
+use Rattle.producer.specs.Machine.{W, open-cell}
 use Rattle.producer.specs.Machine as C
 use Rattle.walk.specs.Syntax.{Interval, I0, I1, Dim, Neg, Meet, Join, Term, Universe, Var, Nat, Zero, Pi, Lam, App, Path, PathLam, PathApp, Context, Nil, Cons, Quote, quote, quote?}
 use Rattle.walk.specs.State.{Thing, term, interval, context, M, if_then_else_, from_get_or_}
-use Rattle.walk.specs.Walk.Typing.{level, pi-parts, lam-parts, path-parts, plam-body}
+use Rattle.walk.specs.Walk.Typing.{level, pi-parts, lam-parts, path-parts, plam-parts}
 use Rattle.link.specs.Lists.{yes?}
 use Rattle.link.specs.Things.{a-quote, show, Cell, Low, low-same, low-number}
 use Rattle.link.specs.Tables.{Shape, s-universe, s-var, s-nat, s-zero, s-pi, s-lam, s-app, s-path, s-plam, s-papp, s-i0, s-i1, s-dim, s-neg, s-meet, s-join, s-nil, s-cons}
@@ -89,23 +89,28 @@ module _ {A B : Type 0} {o : Before} {xs : List Thing} {Q : B → A → List Thi
 
 -- a term taken apart
 
--- one that is neither a universe, a pi, a lam, a path nor a plam
+-- one that has no shape
 record Else (t : Term) : Type 0 where
+  -- written by tools/written.py: no shape
   no-level : level t ≡ none
   no-pi : pi-parts t ≡ none
   no-lam : lam-parts t ≡ none
   no-path : path-parts t ≡ none
-  no-plam : plam-body t ≡ none
+  no-plam : plam-parts t ≡ none
+  -- end of no shape
 
 data Parts (xs : List Thing) : Form → Term → Type 0 where
-  p-universe : {l : ℕ} → Parts xs (form-universe l) (Universe l)
-  p-pi : {a b : ℕ} {a′ b′ : Term} → Cell a (term a′) xs → Cell b (term b′) xs → Parts xs (form-pi a b) (Pi a′ b′)
-  p-lam : {a b : ℕ} {a′ b′ : Term} → Cell a (term a′) xs → Cell b (term b′) xs → Parts xs (form-lam a b) (Lam a′ b′)
-  p-path : {a b c : ℕ} {a′ b′ c′ : Term} → Cell a (term a′) xs → Cell b (term b′) xs → Cell c (term c′) xs → Parts xs (form-path a b c) (Path a′ b′ c′)
-  p-plam : {a b : ℕ} {a′ b′ : Term} → Cell a (term a′) xs → Cell b (term b′) xs → Parts xs (form-plam a b) (PathLam a′ b′)
-  p-else : {t : Term} → Else t → Parts xs form-other t
+  -- written by tools/written.py: shapes
+  p-universe : {n : ℕ} → Parts xs (form.Universe n) (Universe n)
+  p-pi : {a b : ℕ} {a′ b′ : Term} → Cell a (term a′) xs → Cell b (term b′) xs → Parts xs (form.Pi a b) (Pi a′ b′)
+  p-lam : {a b : ℕ} {a′ b′ : Term} → Cell a (term a′) xs → Cell b (term b′) xs → Parts xs (form.Lam a b) (Lam a′ b′)
+  p-path : {a b c : ℕ} {a′ b′ c′ : Term} → Cell a (term a′) xs → Cell b (term b′) xs → Cell c (term c′) xs → Parts xs (form.Path a b c) (Path a′ b′ c′)
+  p-plam : {a b : ℕ} {a′ b′ : Term} → Cell a (term a′) xs → Cell b (term b′) xs → Parts xs (form.Plam a b) (PathLam a′ b′)
+  -- end of shapes
+  p-else : {t : Term} → Else t → Parts xs form.Other t
 
 parted : {xs : List Thing} {k a b c : ℕ} {t : Term} (q : ℕ) → Shape xs k a b c (term t) → Parts xs (shape-by (cell-by k a b c q)) t
+-- written by tools/written.py: which shape
 parted q s-universe = p-universe
 parted q s-var = p-else (record { no-level = refl; no-pi = refl; no-lam = refl; no-path = refl; no-plam = refl })
 parted q s-nat = p-else (record { no-level = refl; no-pi = refl; no-lam = refl; no-path = refl; no-plam = refl })
@@ -117,40 +122,43 @@ parted q (s-path x y z) = p-path x y z
 parted q (s-plam x y) = p-plam x y
 parted q (s-papp x y) = p-else (record { no-level = refl; no-pi = refl; no-lam = refl; no-path = refl; no-plam = refl })
 
+-- end of which shape
+
+-- written by tools/written.py: taken apart
 module _ {A B : Type 0} {o : Before} {xs : List Thing} {Q : B → A → List Thing → Type 0} where
   taken : {i : ℕ} {t : Term} {d : M A} (f : Form → W B) → Cell i (term t) xs → ((p : Form) → Parts xs p t → Matches o xs (f p) d Q) → Matches o xs (λ w. f (shape-of (w .cells) i) w) d Q
   unfolding shape-of
   taken f c k = record { holds = λ w s e h. let r = read-cell tt c e h in rw (r .words) (k (shape-by (cell-by (r .kind) (r .a) (r .b) (r .c) (r .low))) (parted (r .low) (r .shape)) .holds w s e h) }
 
-  pub at-universe : {i : ℕ} {t : Term} {f : ℕ → W B} {z : W B} (g : ℕ → M A) (y : M A) → Cell i (term t) xs → ((l : ℕ) → Matches o xs (f l) (g l) Q) → Matches o xs z y Q → Matches o xs (C.at-universe i f z) (from level t get g or y) Q
-  unfolding C.at-universe on-universe from_get_or_
-  at-universe {f = f} {z = z} g y h k m = taken (λ p. on-universe p f z) h λ _ s. go s
+  pub at-universe : {i : ℕ} {t : Term} {f : ℕ → W B} {z : W B} (g : ℕ → M A) (y : M A) → Cell i (term t) xs → ((n : ℕ) → t ≡ Universe n → Matches o xs (f n) (g n) Q) → Matches o xs z y Q → Matches o xs (C.at-universe i f z) (from level t get g or y) Q
+  unfolding C.at-universe C.on-universe from_get_or_
+  at-universe {t = t} {f = f} {z = z} g y h k m = taken (λ p. C.on-universe p f z) h λ _ s. go refl s
     where
-      go : {p : Form} {t : Term} → Parts xs p t → Matches o xs (on-universe p f z) (from level t get g or y) Q
-      go p-universe = k _
-      go (p-pi a b) = m
-      go (p-lam a b) = m
-      go (p-path a b c) = m
-      go (p-plam a b) = m
-      go (p-else e) = rw (e .no-level) m
+      go : {p : Form} {u : Term} → t ≡ u → Parts xs p u → Matches o xs (C.on-universe p f z) (from level u get g or y) Q
+      go q p-universe = k _ q
+      go q (p-pi a b) = m
+      go q (p-lam a b) = m
+      go q (p-path a b c) = m
+      go q (p-plam a b) = m
+      go q (p-else e) = rw (e .no-level) m
 
-  pub at-pi : {i : ℕ} {t : Term} {f : ℕ → ℕ → W B} {z : W B} (g : Term × Term → M A) (y : M A) → Cell i (term t) xs → ((a b : ℕ) (a′ b′ : Term) → Cell a (term a′) xs → Cell b (term b′) xs → Matches o xs (f a b) (g (a′, b′)) Q) → Matches o xs z y Q → Matches o xs (C.at-pi i f z) (from pi-parts t get g or y) Q
-  unfolding C.at-pi on-pi from_get_or_
-  at-pi {f = f} {z = z} g y h k m = taken (λ p. on-pi p f z) h λ _ s. go s
+  pub at-pi : {i : ℕ} {t : Term} {f : ℕ → ℕ → W B} {z : W B} (g : Term × Term → M A) (y : M A) → Cell i (term t) xs → ((a b : ℕ) (a′ b′ : Term) → t ≡ Pi a′ b′ → Cell a (term a′) xs → Cell b (term b′) xs → Matches o xs (f a b) (g (a′, b′)) Q) → Matches o xs z y Q → Matches o xs (C.at-pi i f z) (from pi-parts t get g or y) Q
+  unfolding C.at-pi C.on-pi from_get_or_
+  at-pi {t = t} {f = f} {z = z} g y h k m = taken (λ p. C.on-pi p f z) h λ _ s. go refl s
     where
-      go : {p : Form} {t : Term} → Parts xs p t → Matches o xs (on-pi p f z) (from pi-parts t get g or y) Q
-      go p-universe = m
-      go (p-pi a b) = k _ _ _ _ a b
-      go (p-lam a b) = m
-      go (p-path a b c) = m
-      go (p-plam a b) = m
-      go (p-else e) = rw (e .no-pi) m
+      go : {p : Form} {u : Term} → t ≡ u → Parts xs p u → Matches o xs (C.on-pi p f z) (from pi-parts u get g or y) Q
+      go q p-universe = m
+      go q (p-pi a b) = k _ _ _ _ q a b
+      go q (p-lam a b) = m
+      go q (p-path a b c) = m
+      go q (p-plam a b) = m
+      go q (p-else e) = rw (e .no-pi) m
 
   pub at-lam : {i : ℕ} {t : Term} {f : ℕ → ℕ → W B} {z : W B} (g : Term × Term → M A) (y : M A) → Cell i (term t) xs → ((a b : ℕ) (a′ b′ : Term) → t ≡ Lam a′ b′ → Cell a (term a′) xs → Cell b (term b′) xs → Matches o xs (f a b) (g (a′, b′)) Q) → Matches o xs z y Q → Matches o xs (C.at-lam i f z) (from lam-parts t get g or y) Q
-  unfolding C.at-lam on-lam from_get_or_
-  at-lam {t = t} {f = f} {z = z} g y h k m = taken (λ p. on-lam p f z) h λ _ s. go refl s
+  unfolding C.at-lam C.on-lam from_get_or_
+  at-lam {t = t} {f = f} {z = z} g y h k m = taken (λ p. C.on-lam p f z) h λ _ s. go refl s
     where
-      go : {p : Form} {u : Term} → t ≡ u → Parts xs p u → Matches o xs (on-lam p f z) (from lam-parts u get g or y) Q
+      go : {p : Form} {u : Term} → t ≡ u → Parts xs p u → Matches o xs (C.on-lam p f z) (from lam-parts u get g or y) Q
       go q p-universe = m
       go q (p-pi a b) = m
       go q (p-lam a b) = k _ _ _ _ q a b
@@ -158,29 +166,31 @@ module _ {A B : Type 0} {o : Before} {xs : List Thing} {Q : B → A → List Thi
       go q (p-plam a b) = m
       go q (p-else e) = rw (e .no-lam) m
 
-  pub at-path : {i : ℕ} {t : Term} {f : ℕ → ℕ → ℕ → W B} {z : W B} (g : Term × Term × Term → M A) (y : M A) → Cell i (term t) xs → ((a b e : ℕ) (a′ b′ e′ : Term) → Cell a (term a′) xs → Cell b (term b′) xs → Cell e (term e′) xs → Matches o xs (f a b e) (g (a′, b′, e′)) Q) → Matches o xs z y Q → Matches o xs (C.at-path i f z) (from path-parts t get g or y) Q
-  unfolding C.at-path on-path from_get_or_
-  at-path {f = f} {z = z} g y h k m = taken (λ p. on-path p f z) h λ _ s. go s
+  pub at-path : {i : ℕ} {t : Term} {f : ℕ → ℕ → ℕ → W B} {z : W B} (g : Term × Term × Term → M A) (y : M A) → Cell i (term t) xs → ((a b c : ℕ) (a′ b′ c′ : Term) → t ≡ Path a′ b′ c′ → Cell a (term a′) xs → Cell b (term b′) xs → Cell c (term c′) xs → Matches o xs (f a b c) (g (a′, b′, c′)) Q) → Matches o xs z y Q → Matches o xs (C.at-path i f z) (from path-parts t get g or y) Q
+  unfolding C.at-path C.on-path from_get_or_
+  at-path {t = t} {f = f} {z = z} g y h k m = taken (λ p. C.on-path p f z) h λ _ s. go refl s
     where
-      go : {p : Form} {t : Term} → Parts xs p t → Matches o xs (on-path p f z) (from path-parts t get g or y) Q
-      go p-universe = m
-      go (p-pi a b) = m
-      go (p-lam a b) = m
-      go (p-path a b c) = k _ _ _ _ _ _ a b c
-      go (p-plam a b) = m
-      go (p-else e) = rw (e .no-path) m
+      go : {p : Form} {u : Term} → t ≡ u → Parts xs p u → Matches o xs (C.on-path p f z) (from path-parts u get g or y) Q
+      go q p-universe = m
+      go q (p-pi a b) = m
+      go q (p-lam a b) = m
+      go q (p-path a b c) = k _ _ _ _ _ _ q a b c
+      go q (p-plam a b) = m
+      go q (p-else e) = rw (e .no-path) m
 
-  pub at-plam : {i : ℕ} {t : Term} {f : ℕ → W B} {z : W B} (g : Term → M A) (y : M A) → Cell i (term t) xs → ((b : ℕ) (b′ : Term) → Cell b (term b′) xs → Matches o xs (f b) (g b′) Q) → Matches o xs z y Q → Matches o xs (C.at-plam i f z) (from plam-body t get g or y) Q
-  unfolding C.at-plam on-plam from_get_or_
-  at-plam {f = f} {z = z} g y h k m = taken (λ p. on-plam p f z) h λ _ s. go s
+  pub at-plam : {i : ℕ} {t : Term} {f : ℕ → ℕ → W B} {z : W B} (g : Term × Term → M A) (y : M A) → Cell i (term t) xs → ((a b : ℕ) (a′ b′ : Term) → t ≡ PathLam a′ b′ → Cell a (term a′) xs → Cell b (term b′) xs → Matches o xs (f a b) (g (a′, b′)) Q) → Matches o xs z y Q → Matches o xs (C.at-plam i f z) (from plam-parts t get g or y) Q
+  unfolding C.at-plam C.on-plam from_get_or_
+  at-plam {t = t} {f = f} {z = z} g y h k m = taken (λ p. C.on-plam p f z) h λ _ s. go refl s
     where
-      go : {p : Form} {t : Term} → Parts xs p t → Matches o xs (on-plam p f z) (from plam-body t get g or y) Q
-      go p-universe = m
-      go (p-pi a b) = m
-      go (p-lam a b) = m
-      go (p-path a b c) = m
-      go (p-plam a b) = k _ _ b
-      go (p-else e) = rw (e .no-plam) m
+      go : {p : Form} {u : Term} → t ≡ u → Parts xs p u → Matches o xs (C.on-plam p f z) (from plam-parts u get g or y) Q
+      go q p-universe = m
+      go q (p-pi a b) = m
+      go q (p-lam a b) = m
+      go q (p-path a b c) = m
+      go q (p-plam a b) = k _ _ _ _ q a b
+      go q (p-else e) = rw (e .no-plam) m
+
+-- end of taken apart
 
 -- two cells with one quote, or not
 

@@ -14,7 +14,7 @@ use Rattle.producer.specs.Machine.{W, when_then_else_, make-var, refs-1}
 use Rattle.producer.specs.Machine as C
 use Rattle.producer.specs.Callees.{Callees}
 use Rattle.producer.specs.Transforms as P
-use Rattle.walk.specs.Syntax.{Interval, Term, Var, quote}
+use Rattle.walk.specs.Syntax.{Interval, Term, Var, Pi, quote}
 use Rattle.walk.specs.State.{Thing, term, interval, of-term, M, count-all}
 use Rattle.walk.specs.State as S
 use Rattle.walk.specs.Walk.Reference as D
@@ -99,21 +99,26 @@ module _ {o : Before} {rd : M (Unit {0})} (c : Callees) (d : D.Callees) (L : Lin
   tinterval-matches h o-dshift = pair-then _ _ (L .itransform h i-shift) λ _ _ _ _ _ k. giving _ _ λ _ e. record { left = cell-lift e k; right = one-row }
   tinterval-matches h (o-dsubst r) = pair-then _ _ (L .itransform h (i-subst r)) λ _ _ _ _ _ k. giving _ _ λ _ e. record { left = cell-lift e k; right = one-row }
 
+  -- two parts, the second under a variable, and both shown: for each kind, that its rules and its cells are the walk's
+  tbinder-matches : {xs : List Thing} {i a b : ℕ} {a′ b′ : Term} {p : Op} {q : D.Op} (kind : ℕ) (node : Term → Term → Term) (rule : D.Op → ℕ) → P.rule-of p kind ≡ rule q → ((x y : ℕ) (x′ y′ : Term) (ys : List Thing) → Cell x (term x′) ys → Cell y (term y′) ys → Matches o ys (C.intern kind x y 0) (count-all (of-term (node x′ y′))) (λ n _. Cell n (term (node x′ y′)))) → Cell i (term (node a′ b′)) xs → Cell a (term a′) xs → Cell b (term b′) xs → Ops xs p q → Matches o xs (P.transform-binder c i p kind a b) (B.tbinder d node rule a′ b′ q) (Returns term)
+  unfolding P.transform-binder B.tbinder
+  tbinder-matches kind node rule is making h x y op =
+      pair-then _ _ (L .transform x op) λ _ r _ _ e₁ x′.
+      cited-then _ _ (L .under (ops-lift e₁ op) false) λ _ _ _ _ _ e₂ inner few.
+      let e₁₂ = extends-trans e₁ e₂ in
+      pair-then _ _ (L .transform (cell-lift e₁₂ y) inner) λ _ _ _ _ e₃ y′.
+      let e = extends-trans e₁₂ e₃ in
+      rw is (finish _ _ (cite-and r few (lit< tt) cite-1) (cell-lift e h) (ops-lift e op) (making _ _ _ _ _ (cell-lift (extends-trans e₂ e₃) x′) y′))
+
   pub transform-matches : {xs : List Thing} {i : ℕ} {t : Term} {p : Op} {q : D.Op} → Cell i (term t) xs → Ops xs p q → Matches o xs (P.transform-body c i p) (B.transform-body d t q) (Returns term)
-  unfolding P.transform-body P.compound P.transform-pi P.transform-lam P.transform-app P.transform-path P.transform-plam P.transform-papp B.transform-body when_then_else_
+  unfolding P.transform-body P.compound P.rule-of P.transform-lam P.transform-app P.transform-path P.transform-plam P.transform-papp B.transform-body when_then_else_
   transform-matches {q = q} h op =
       opening-term _ (λ t. B.transform-body d t q) h
       (λ _ _ k. finished-by _ _ _ _ _ cite-0 (k .cell) op (k .cell))
       (λ _ _ k. tvar-matches (k .cell) op)
       (λ _ k. finished-by _ _ _ _ _ cite-0 (k .cell) op (k .cell))
       (λ _ k. finished-by _ _ _ _ _ cite-0 (k .cell) op (k .cell))
-      (λ _ _ _ _ _ k x y.
-      pair-then _ _ (L .transform x op) λ _ r _ _ e₁ x′.
-      cited-then _ _ (L .under (ops-lift e₁ op) false) λ _ _ _ _ _ e₂ inner few.
-      let e₁₂ = extends-trans e₁ e₂ in
-      pair-then _ _ (L .transform (cell-lift e₁₂ y) inner) λ _ _ _ _ e₃ y′.
-      let e = extends-trans e₁₂ e₃ in
-      finish-by _ _ _ _ _ (cite-and r few (lit< tt) cite-1) (cell-lift e (k .cell)) (ops-lift e op) (making-pi (cell-lift (extends-trans e₂ e₃) x′) y′))
+      (λ _ _ _ _ _ k x y. tbinder-matches 5 Pi B.pi-rule (op-rule _ _ _ _ op) (λ _ _ _ _ _ h k. making-pi h k) (k .cell) x y op)
       (λ _ _ _ _ _ k x y.
       pair-then _ _ (L .transform x op) λ _ _ _ _ e₁ x′.
       cited-then _ _ (L .under (ops-lift e₁ op) false) λ _ _ _ _ _ e₂ inner few.

@@ -110,9 +110,9 @@ module _ {o : Before} {rd : M (Unit {0})} (c : Callees) (d : D.Callees) (L : Lin
   universe-matches n g t =
       pair-then _ _ (L .infer n g t) λ _ row _ _ e₁ ty.
       at-universe _ _ ty
-      (λ l. giving _ _ λ _ _. record { left = refl; right = refl })
+      (λ l _. giving _ _ λ _ _. record { left = refl; right = refl })
       (converting (pair-then _ _ (L .expose n (cell-lift e₁ g) (cell-lift e₁ t) ty row) λ _ _ _ _ _ normal.
-      at-universe _ _ normal (λ l. giving _ _ λ _ _. record { left = refl; right = refl }) (stopping _)))
+      at-universe _ _ normal (λ l _. giving _ _ λ _ _. record { left = refl; right = refl }) (stopping _)))
 
   pub check-matches : {xs : List Thing} {g t y : ℕ} {g′ : Context} {t′ y′ : Term} (n : ℕ) → Cell g (context g′) xs → Cell t (term t′) xs → Cell y (term y′) xs → Matches o xs (P.check-body c n g t y) (B.check-body d n g′ t′ y′) Same
   unfolding P.check-body P.converted B.check-body
@@ -134,24 +134,32 @@ module _ {o : Before} {rd : M (Unit {0})} (c : Callees) (d : D.Callees) (L : Lin
   unfolding P.as-pi P.opened B.as-pi
   as-pi-matches n g t y row =
       at-pi _ _ y
-      (λ _ _ _ _ a b. giving _ _ λ _ f. record { one = cell-lift f a; two = cell-lift f b; row = refl })
+      (λ _ _ _ _ _ a b. giving _ _ λ _ f. record { one = cell-lift f a; two = cell-lift f b; row = refl })
       (pair-then _ _ (converting (L .expose n g t y row)) λ _ _ _ _ _ y′.
-      at-pi _ _ y′ (λ _ _ _ _ a b. giving _ _ λ _ f. record { one = cell-lift f a; two = cell-lift f b; row = refl }) (stopping _))
+      at-pi _ _ y′ (λ _ _ _ _ _ a b. giving _ _ λ _ f. record { one = cell-lift f a; two = cell-lift f b; row = refl }) (stopping _))
 
   pub as-path-matches : {xs : List Thing} {g t y : ℕ} {g′ : Context} {t′ y′ : Term} (n : ℕ) → Cell g (context g′) xs → Cell t (term t′) xs → Cell y (term y′) xs → (row : ℕ) → Matches o xs (P.as-path c n g t y row) (B.as-path d n g′ t′ y′ row) Four
   unfolding P.as-path P.opened B.as-path
   as-path-matches n g t y row =
       at-path _ _ y
-      (λ _ _ _ _ _ _ a b e. giving _ _ λ _ f. record { one = cell-lift f a; two = cell-lift f b; three = cell-lift f e; row = refl })
+      (λ _ _ _ _ _ _ _ a b e. giving _ _ λ _ f. record { one = cell-lift f a; two = cell-lift f b; three = cell-lift f e; row = refl })
       (pair-then _ _ (converting (L .expose n g t y row)) λ _ _ _ _ _ y′.
-      at-path _ _ y′ (λ _ _ _ _ _ _ a b e. giving _ _ λ _ f. record { one = cell-lift f a; two = cell-lift f b; three = cell-lift f e; row = refl }) (stopping _))
+      at-path _ _ y′ (λ _ _ _ _ _ _ _ a b e. giving _ _ λ _ f. record { one = cell-lift f a; two = cell-lift f b; three = cell-lift f e; row = refl }) (stopping _))
 
   founding : {xs : List Thing} {make : W ℕ} {l : Refs} {refs : List ℕ} (ty : Term) (rule : ℕ) → Cites l refs → Matches o xs make (count-all (of-term ty)) (λ n _. Cell n (term ty)) → Matches o xs (P.found make l rule) (B.found ty refs rule) Finds
   unfolding P.found B.found
   founding ty rule c m = bind m λ _ _ _ _ h. giving _ _ λ _ e. record { type = cell-lift e h; refs = c; rule = refl }
 
+  find-binder-matches : {xs : List Thing} {g a b : ℕ} {g′ : Context} {a′ b′ : Term} (n rule : ℕ) → Cell g (context g′) xs → Cell a (term a′) xs → Cell b (term b′) xs → Matches o xs (P.find-binder c n g a b rule) (B.find-binder d n g′ a′ b′ rule) Finds
+  unfolding P.find-binder B.find-binder
+  find-binder-matches n rule g a b =
+      number-then _ _ (L .universe n g a) λ i _ _ e₁.
+      number-then _ _ (universe-of-cons n (cell-lift e₁ a) (cell-lift e₁ g) (cell-lift e₁ b)) λ j _ _ _.
+      row-then (L .max i j) λ _ _ _.
+      rw (← larger-is i j) (founding _ _ cite-3 (making-universe (larger i j)))
+
   find-matches : {xs : List Thing} {g t : ℕ} {g′ : Context} {t′ : Term} (n : ℕ) → Cell g (context g′) xs → Cell t (term t′) xs → Matches o xs (P.find c n g t) (B.find d n g′ t′) Finds
-  unfolding P.find P.find-compound P.find-atom P.find-var P.find-pi P.find-lam P.find-app P.find-path P.path-ends P.find-plam P.plam-ends P.find-papp B.find when_then_else_
+  unfolding P.find P.find-compound P.find-atom P.find-var P.find-lam P.find-app P.find-path P.path-ends P.find-plam P.plam-ends P.find-papp B.find when_then_else_
   find-matches {g′ = g′} n g t =
       opening-term _ (B.find d n g′) t
       (λ _ l _. row-then (L .ctx n g) λ _ _ _. bumping _ l (L .more l) λ q. rw q (founding _ _ cite-1 (making-universe (suc l))))
@@ -160,11 +168,7 @@ module _ {o : Before} {rd : M (Unit {0})} (c : Callees) (d : D.Callees) (L : Lin
       founding _ _ cite-2 (having (the-term ty) ty))
       (λ _ _. row-then (L .ctx n g) λ _ _ _. founding _ _ cite-1 (making-universe 0))
       (λ _ _. row-then (L .ctx n g) λ _ _ _. founding _ _ cite-1 making-nat)
-      (λ _ _ _ _ _ _ a b.
-      number-then _ _ (L .universe n g a) λ i _ _ e₁.
-      number-then _ _ (universe-of-cons n (cell-lift e₁ a) (cell-lift e₁ g) (cell-lift e₁ b)) λ j _ _ _.
-      row-then (L .max i j) λ _ _ _.
-      rw (← larger-is i j) (founding _ _ cite-3 (making-universe (larger i j))))
+      (λ _ _ _ _ _ _ a b. find-binder-matches n _ g a b)
       (λ _ _ _ _ _ _ a b.
       number-then _ _ (L .universe n g a) λ _ _ _ e₁.
       pair-then _ _ (infer-of-cons n (cell-lift e₁ a) (cell-lift e₁ g) (cell-lift e₁ b)) λ _ _ _ _ e₂ y.

@@ -16,9 +16,9 @@ use Rattle.walk.specs.State.{Row, Key, key, key?, Thing, inference, State, Outc
 use Rattle.walk.specs.Walk.Reference.{Op, Shift, Subst, DShift, DSubst, IOp, IShift, ISubst, Step, Found, Callees, of-op, of-iop}
 use Rattle.walk.specs.Walk.Numbers.{lt-by, le-by, larger, comparison-body, max-body}
 use Rattle.walk.specs.Walk.Intervals.{itransformed, ifinish, idim-above, idim, itransform-body, interval-body}
-use Rattle.walk.specs.Walk.Transforms.{under-body, transformed, finish, tvar-above, tvar, tinterval, transform-body}
+use Rattle.walk.specs.Walk.Transforms.{under-body, transformed, finish, tvar-above, tvar, tinterval, tbinder, transform-body}
 use Rattle.walk.specs.Walk.Contexts.{dshiftctx-body, new-ctx, ctx-body, lookup-body}
-use Rattle.walk.specs.Walk.Typing.{level, pi-parts, lam-parts, path-parts, plam-body, expose-body, universe-body, check-body, as-pi, as-path, found, find, new-infer, infer-body}
+use Rattle.walk.specs.Walk.Typing.{level, pi-parts, lam-parts, path-parts, plam-parts, expose-body, universe-body, check-body, as-pi, as-path, found, find-binder, find, new-infer, infer-body}
 use Rattle.walk.specs.Walk.Equality.{beta, at-end, pbeta, ends, reduce-body, rounds, normalize-body, equal-body}
 use Rattle.walk.specs.Refusal as Refusal
 use Rattle.walk.specs.Walk.{none-left, entered, callees-by, one-more, callees}
@@ -452,7 +452,7 @@ lam-top t m e = rw (lam-is t m e) (omega arith)
 path-top : (t : Term) (m : Term × Term × Term) → path-parts t ≡ some m → (term-top (m .0) ≤ term-top t) × (term-top (m .1) ≤ term-top t) × (term-top (m .2) ≤ term-top t)
 path-top t m e = rw (path-is t m e) (omega arith)
 
-plam-top : (t m : Term) → plam-body t ≡ some m → term-top m ≤ term-top t
+plam-top : (t : Term) (m : Term × Term) → plam-parts t ≡ some m → (term-top (m .0) ≤ term-top t) × (term-top (m .1) ≤ term-top t)
 plam-top t m e = rw (plam-is t m e) (omega arith)
 
 -- a type that was found: one more than what was handed about only where it is a universe
@@ -573,7 +573,7 @@ module _ (n : ℕ) (c c′ : Callees) (B : Bounds n c c′) where
   tinterval-within r (DSubst k q) h = bind (B .itransform r (ISubst k q) (omega arith)) λ x₁ c₁ e₁ h₁. giving _ λ c e. omega arith
 
   transform-within : {b : ℕ} (t : Term) (op : Op) → (op-cutoff op + suc n ≤ 4200) × (term-top t ≤ 32 + b) × (op-top op ≤ 32 + b) → Within b (transform-body c t op) (transform-body c′ t op) Small-term
-  unfolding transform-body
+  unfolding transform-body tbinder
   transform-within (Universe l) op h = finished _ _ _ _ _ (omega arith)
   transform-within (Var i) op h = tvar-within i op (omega arith)
   transform-within Nat op h = finished _ _ _ _ _ (omega arith)
@@ -652,7 +652,7 @@ module _ (n : ℕ) (c c′ : Callees) (B : Bounds n c c′) where
       (λ _. bind (convert (B .expose d g t y row (omega arith))) λ x₁ c₁ e₁ h₁. cases (path-parts (x₁ .0)) (λ ab q. let p = path-top (x₁ .0) ab q in giving _ λ c e. omega arith) (λ _. refusing (λ z. omega arith)))
 
   find-within : {b : ℕ} (d : ℕ) (g : Context) (t : Term) → (d + suc n ≤ 4200) × (context-top g ≤ 32 + b) × (term-top t ≤ 32 + b) → Within b (find c d g t) (find c′ d g t) (λ o b. Ready (o .type) b)
-  unfolding find
+  unfolding find find-binder
   find-within d g (Universe l) h = bind (B .ctx d g (omega arith)) λ x₁ c₁ e₁ h₁. bind (B .more l (omega arith)) λ x₂ c₂ e₂ h₂. founds (Universe x₂) _ _ (level-ready x₂ (omega arith))
   find-within d g Nat h = bind (B .ctx d g (omega arith)) λ x₁ c₁ e₁ h₁. founds (Universe 0) _ _ (kept-ready (Universe 0) (omega arith))
   find-within d g Zero h = bind (B .ctx d g (omega arith)) λ x₁ c₁ e₁ h₁. founds Nat _ _ (kept-ready Nat (omega arith))
@@ -733,8 +733,8 @@ module _ (n : ℕ) (c c′ : Callees) (B : Bounds n c c′) where
   reduce-within d g (PathLam s t) h = giving _ λ c e. tt
   reduce-within d g (PathApp p r) h =
       bind (B .infer d g p (omega arith)) λ x₁ c₁ e₁ h₁. bind (as-path-within d g p (x₁ .0) (x₁ .1) (omega arith)) λ x₂ c₂ e₂ h₂. bind (B .transform (x₂ .0) (DSubst 0 r) (omega arith)) λ x₃ c₃ e₃ h₃.
-      cases (plam-body p)
-      (λ t q. let z = plam-top p t q in pbeta-within d g p r t (x₃ .0) _ _ (omega arith))
+      cases (plam-parts p)
+      (λ ab q. let z = plam-top p ab q in pbeta-within d g p r (ab .1) (x₃ .0) _ _ (omega arith))
       (λ _. ends-within d g p r (x₂ .1) (x₂ .2) (x₃ .0) _ _ (omega arith))
 
   rounds-within : {b : ℕ} (left d : ℕ) (g : Context) (t ty now : Term) (x : ℕ) → (d + suc n ≤ 4200) × (context-top g ≤ 32 + b) × (term-top t ≤ 32 + b) × (term-top ty ≤ 32 + b) × (term-top now ≤ 32 + b) → Within b (rounds left c d g t ty now x) (rounds left c′ d g t ty now x) Small-term

@@ -15,9 +15,9 @@ use Rattle.walk.specs.State.{Row, Key, Thing, inference, Memory, State, Outcome
 use Rattle.walk.specs.Walk.Reference.{Op, Shift, Subst, DShift, DSubst, IOp, IShift, ISubst, Callees}
 use Rattle.walk.specs.Walk.Numbers.{lt-by, le-by, comparison-body, max-body}
 use Rattle.walk.specs.Walk.Intervals.{ifinish, idim-above, idim, itransform-body, interval-body}
-use Rattle.walk.specs.Walk.Transforms.{under-body, finish, tvar-above, tvar, tinterval, transform-body}
+use Rattle.walk.specs.Walk.Transforms.{under-body, finish, tvar-above, tvar, tinterval, tbinder, transform-body}
 use Rattle.walk.specs.Walk.Contexts.{dshiftctx-body, new-ctx, ctx-body, lookup-body}
-use Rattle.walk.specs.Walk.Typing.{expose-body, universe-body, check-body, as-pi, as-path, found, find, new-infer, infer-body}
+use Rattle.walk.specs.Walk.Typing.{expose-body, universe-body, check-body, as-pi, as-path, found, find-binder, find, new-infer, infer-body}
 use Rattle.walk.specs.Walk.Equality.{beta, at-end, pbeta, ends, reduce-body, rounds, normalize-body, equal-body}
 use Rattle.walk.specs.Walk.{none-left, entered, callees-by, one-more, callees}
 use Rattle.walk.specs.Demand.{Extends, same, more}
@@ -276,7 +276,7 @@ module _ (c : Callees) (L : All-lead c) where
   tinterval-leads r (DSubst k q) = search (combinators, L .itransform)
 
   transform-leads : (t : Term) (op : Op) → Leads (transform-body c t op)
-  unfolding transform-body finish
+  unfolding transform-body tbinder finish
   transform-leads (Universe l) op = search combinators
   transform-leads (Var n) op = search tvar-leads
   transform-leads Nat op = search combinators
@@ -333,7 +333,7 @@ module _ (c : Callees) (L : All-lead c) where
   founds ty refs rule = search combinators
 
   find-leads : (d : ℕ) (g : Context) (t : Term) → Leads (find c d g t)
-  unfolding find
+  unfolding find find-binder
   find-leads d g (Universe l) = search (combinators, founds, L .ctx, L .more)
   find-leads d g Nat = search (combinators, founds, L .ctx)
   find-leads d g Zero = search (combinators, founds, L .ctx)

@@ -15,7 +15,7 @@ use Rattle.walk.specs.State.{Thing, State, Outcome, done, refused, M, go-on, lo
 use Rattle.walk.specs.Walk.Reference.{Op, Shift, Subst, DShift, DSubst, IOp, IShift, ISubst, Callees}
 use Rattle.walk.specs.Walk.Numbers.{lt-by, le-by, comparison-body, max-body}
 use Rattle.walk.specs.Walk.Intervals.{ifinish, idim-above, idim, itransform-body, interval-body}
-use Rattle.walk.specs.Walk.Transforms.{under-body, finish, tvar-above, tvar, tinterval, transform-body}
+use Rattle.walk.specs.Walk.Transforms.{under-body, finish, tvar-above, tvar, tinterval, tbinder, transform-body}
 use Rattle.walk.specs.Walk.Contexts.{dshiftctx-body, lookup-body}
 use Rattle.walk.specs.Walk.{none-left, entered, callees-by, one-more, callees}
 
@@ -252,7 +252,7 @@ module _ (c : Callees) (R : Refusals c) where
   tinterval-only r (DSubst k q) = search (combinators, R .itransform)
 
   transform-only : (t : Term) (op : Op) → Only Full (transform-body c t op)
-  unfolding transform-body
+  unfolding transform-body tbinder
   transform-only (Universe l) op = search finish-only
   transform-only (Var n) op = search tvar-only
   transform-only Nat op = search finish-only

@@ -15,9 +15,9 @@ use Rattle.walk.specs.State.{Thing, thing?, State, Outcome, done, refused, M, g
 use Rattle.walk.specs.Walk.Reference.{Op, Shift, Subst, DShift, DSubst, IOp, IShift, ISubst, Callees, of-op, of-iop}
 use Rattle.walk.specs.Walk.Numbers.{lt-by, le-by, comparison-body, max-body}
 use Rattle.walk.specs.Walk.Intervals.{idim-above, idim, itransform-body, interval-body}
-use Rattle.walk.specs.Walk.Transforms.{under-body, tvar-above, tvar, transform-body}
+use Rattle.walk.specs.Walk.Transforms.{under-body, tvar-above, tvar, tbinder, transform-body}
 use Rattle.walk.specs.Walk.Contexts.{dshiftctx-body, new-ctx, ctx-body, lookup-body}
-use Rattle.walk.specs.Walk.Typing.{expose-body, universe-body, check-body, find, new-infer, infer-body}
+use Rattle.walk.specs.Walk.Typing.{expose-body, universe-body, check-body, find-binder, find, new-infer, infer-body}
 use Rattle.walk.specs.Walk.Equality.{beta, reduce-body, normalize-body, equal-body}
 use Rattle.walk.specs.Walk.{none-left, entered, one-more, callees-by, callees}
 use Rattle.walk.specs.Refusal as R
@@ -242,7 +242,7 @@ reduce-alike d g (PathLam a b) = unchanged _
 reduce-alike d g (PathApp p r) = stopped (stops-then _ _ (stops-here _ _ _ λ cells h. part-of (of-context g) (of-term p) (of-interval r) _ h))
 
 find-stops : (d : ℕ) (g : Context) (t : Term) → Stops (of-context g ++ of-term t) (find refusing d g t) (find counted-first d g t)
-unfolding find none-left counted-first
+unfolding find find-binder none-left counted-first
 find-stops d g (Universe l) = stops-then _ _ (stops-here _ _ _ λ cells h. left-of (of-context g) _ h)
 find-stops d g (Var n) = stops-then _ _ (stops-here _ _ _ λ cells h. left-of (of-context g) _ h)
 find-stops d g Nat = stops-then _ _ (stops-here _ _ _ λ cells h. left-of (of-context g) _ h)
@@ -346,7 +346,7 @@ tvar-same n (DShift k) = refl
 tvar-same n (DSubst k r) = refl
 
 transform-alike : (t : Term) (op : Op) → Alike (of-term t ++ of-op op) (transform-body refusing t op) (transform-body counted-first t op)
-unfolding transform-body none-left counted-first
+unfolding transform-body tbinder none-left counted-first
 transform-alike (Universe l) op = unchanged _
 transform-alike (Var n) op = rw (tvar-same n op) (unchanged _)
 transform-alike Nat op = unchanged _

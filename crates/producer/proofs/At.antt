@@ -195,6 +195,7 @@ ended-two-end (two.Refused s e) R C = refl
 
 -- a shape that is not the one taken apart: its tag is one of the others'
 
+-- written by tools/written.py: shapes
 pub not-universe : {A : Type 0} (x : Shape) → OneOf (1 ∷ 2 ∷ 3 ∷ 4 ∷ 5 ∷ []) (enum.tagOf shape.the-type x) → (f : ℕ → W A) (z : W A) → on-universe x f z ≡ z
 unfolding on-universe
 not-universe (Universe n) h f z = absurd (none-of h)
@@ -259,7 +260,7 @@ not-path (Path a b c) h f z = absurd (none-of h)
 not-path (Plam a b) h f z = refl
 not-path Other h f z = refl
 
-pub not-plam : {A : Type 0} (x : Shape) → OneOf (0 ∷ 1 ∷ 2 ∷ 3 ∷ 5 ∷ []) (enum.tagOf shape.the-type x) → (f : ℕ → W A) (z : W A) → on-plam x f z ≡ z
+pub not-plam : {A : Type 0} (x : Shape) → OneOf (0 ∷ 1 ∷ 2 ∷ 3 ∷ 5 ∷ []) (enum.tagOf shape.the-type x) → (f : ℕ → ℕ → W A) (z : W A) → on-plam x f z ≡ z
 unfolding on-plam
 not-plam (Universe n) h f z = refl
 not-plam (Pi a b) h f z = refl
@@ -274,6 +275,8 @@ not-plam (Plam a b) h f z = absurd (none-of h)
     none-of (inr (inr (inr (inl e)))) = omega arith
     none-of (inr (inr (inr (inr e)))) = omega arith
 not-plam Other h f z = refl
+
+-- end of shapes
 
 -- one round, and none left
 pub rounds-turn : (c : Callees) (i d g t ty current row : ℕ) (w : Machine) → i < 32 → rounds (32 - i) c d g t ty current row w ≡ next (round c d g t ty current row w) (λ x. on-next x (λ term y. rounds (32 - (i + 1)) c d g t ty term y) (give (current, row)))

@@ -51,7 +51,7 @@ reduce-papp c d g t p r = do
   (pty, x₀) ← c .infer d g p
   (a, b, e, x) ← as-path c d g p pty x₀
   (ty, y) ← c .transform a (DSubst 0 r)
-  at-plam p (λ body. pbeta c d g t r body ty x y) (at-ends c d g t r b e ty x y)
+  at-plam p (λ _ body. pbeta c d g t r body ty x y) (at-ends c d g t r b e ty x y)
 
 unfoldable pub reduce-body : Callees → (d g t : ℕ) → W (Option Reduction)
 reduce-body c d g t =

@@ -160,6 +160,7 @@ same-quote i j x y = λ w. (when same-quote-of (w .cells) i j then x else y) w
 
 -- a cell of one kind
 
+-- written by tools/written.py: shapes
 unfoldable pub on-universe : {A : Type 0} → Shape → (ℕ → W A) → W A → W A
 on-universe (Universe n) f z = f n
 on-universe (Pi a b) f z = z
@@ -192,12 +193,12 @@ on-path (Path a b c) f z = f a b c
 on-path (Plam a b) f z = z
 on-path Other f z = z
 
-unfoldable pub on-plam : {A : Type 0} → Shape → (ℕ → W A) → W A → W A
+unfoldable pub on-plam : {A : Type 0} → Shape → (ℕ → ℕ → W A) → W A → W A
 on-plam (Universe n) f z = z
 on-plam (Pi a b) f z = z
 on-plam (Lam a b) f z = z
 on-plam (Path a b c) f z = z
-on-plam (Plam a b) f z = f b
+on-plam (Plam a b) f z = f a b
 on-plam Other f z = z
 
 unfoldable pub at-universe : {A : Type 0} → ℕ → (ℕ → W A) → W A → W A
@@ -212,8 +213,10 @@ at-lam i f z = λ w. on-lam (shape-of (w .cells) i) f z w
 unfoldable pub at-path : {A : Type 0} → ℕ → (ℕ → ℕ → ℕ → W A) → W A → W A
 at-path i f z = λ w. on-path (shape-of (w .cells) i) f z w
 
-unfoldable pub at-plam : {A : Type 0} → ℕ → (ℕ → W A) → W A → W A
+unfoldable pub at-plam : {A : Type 0} → ℕ → (ℕ → ℕ → W A) → W A → W A
 at-plam i f z = λ w. on-plam (shape-of (w .cells) i) f z w
+
+-- end of shapes
 
 abbrev pub one-more-cell : State → State
 one-more-cell s = record { rows = s .rows; cells = s .cells + 1; conversions = s .conversions; deepest = s .deepest; limit = s .limit; rowroom = s .rowroom; cellroom = s .cellroom }
@@ -309,28 +312,28 @@ unfoldable pub join-refs : Refs → Refs → Refs
 join-refs k l = ifb (eqb (k .count) 0) l (cons-refs (k .r0) l)
 
 unfoldable pub refs-1 : ℕ → Refs
-refs-1 x = record { count = 1; r0 = x; r1 = 0; r2 = 0; r3 = 0; r4 = 0; r5 = 0; r6 = 0; r7 = 0; r8 = 0; r9 = 0 }
+refs-1 x = cons-refs x no-refs
 
 unfoldable pub refs-2 : (x y : ℕ) → Refs
-refs-2 x y = record { count = 2; r0 = x; r1 = y; r2 = 0; r3 = 0; r4 = 0; r5 = 0; r6 = 0; r7 = 0; r8 = 0; r9 = 0 }
+refs-2 x y = cons-refs x (refs-1 y)
 
 unfoldable pub refs-3 : (x y z : ℕ) → Refs
-refs-3 x y z = record { count = 3; r0 = x; r1 = y; r2 = z; r3 = 0; r4 = 0; r5 = 0; r6 = 0; r7 = 0; r8 = 0; r9 = 0 }
+refs-3 x y z = cons-refs x (refs-2 y z)
 
 unfoldable pub refs-4 : (x y z u : ℕ) → Refs
-refs-4 x y z u = record { count = 4; r0 = x; r1 = y; r2 = z; r3 = u; r4 = 0; r5 = 0; r6 = 0; r7 = 0; r8 = 0; r9 = 0 }
+refs-4 x y z u = cons-refs x (refs-3 y z u)
 
 unfoldable pub refs-5 : (x y z u v : ℕ) → Refs
-refs-5 x y z u v = record { count = 5; r0 = x; r1 = y; r2 = z; r3 = u; r4 = v; r5 = 0; r6 = 0; r7 = 0; r8 = 0; r9 = 0 }
+refs-5 x y z u v = cons-refs x (refs-4 y z u v)
 
 unfoldable pub refs-6 : (x₀ x₁ x₂ x₃ x₄ x₅ : ℕ) → Refs
-refs-6 x₀ x₁ x₂ x₃ x₄ x₅ = record { count = 6; r0 = x₀; r1 = x₁; r2 = x₂; r3 = x₃; r4 = x₄; r5 = x₅; r6 = 0; r7 = 0; r8 = 0; r9 = 0 }
+refs-6 x₀ x₁ x₂ x₃ x₄ x₅ = cons-refs x₀ (refs-5 x₁ x₂ x₃ x₄ x₅)
 
 unfoldable pub refs-7 : (x₀ x₁ x₂ x₃ x₄ x₅ x₆ : ℕ) → Refs
-refs-7 x₀ x₁ x₂ x₃ x₄ x₅ x₆ = record { count = 7; r0 = x₀; r1 = x₁; r2 = x₂; r3 = x₃; r4 = x₄; r5 = x₅; r6 = x₆; r7 = 0; r8 = 0; r9 = 0 }
+refs-7 x₀ x₁ x₂ x₃ x₄ x₅ x₆ = cons-refs x₀ (refs-6 x₁ x₂ x₃ x₄ x₅ x₆)
 
 unfoldable pub refs-10 : (x₀ x₁ x₂ x₃ x₄ x₅ x₆ x₇ x₈ x₉ : ℕ) → Refs
-refs-10 x₀ x₁ x₂ x₃ x₄ x₅ x₆ x₇ x₈ x₉ = record { count = 10; r0 = x₀; r1 = x₁; r2 = x₂; r3 = x₃; r4 = x₄; r5 = x₅; r6 = x₆; r7 = x₇; r8 = x₈; r9 = x₉ }
+refs-10 x₀ x₁ x₂ x₃ x₄ x₅ x₆ x₇ x₈ x₉ = cons-refs x₀ (cons-refs x₁ (cons-refs x₂ (refs-7 x₃ x₄ x₅ x₆ x₇ x₈ x₉)))
 
 abbrev pub row-block : ℕ → Refs → (kind count a b c d e : ℕ) → List ℕ
 row-block rule l kind count a b c d e = rule ∷ l .count ∷ l .r0 ∷ l .r1 ∷ l .r2 ∷ l .r3 ∷ l .r4 ∷ l .r5 ∷ l .r6 ∷ l .r7 ∷ l .r8 ∷ l .r9 ∷ count ∷ a ∷ b ∷ c ∷ d ∷ e ∷ 0 ∷ kind ∷ 0 ∷ 0 ∷ 0 ∷ 0 ∷ []

@@ -2,14 +2,14 @@
 use Prim.Native.Nat.{ℕ, _-_}
 use mathlib.Core.Bool.{Bool, true, false}
 use lib.Dec.{ltb, eqb}
-use Rattle.ast.specs.Words.{up}
+use Rattle.ast.specs.Words.{ifb, up}
 use Rattle.ast.specs.declared.cells.Cell.{Cell}
 use Rattle.producer.specs.declared.rows.Refs.{Refs}
 use Rattle.producer.specs.declared.intervals.IOp.the-variants.{IShift, ISubst}
 use Rattle.producer.specs.declared.transforms.Op.{Op}
 use Rattle.producer.specs.declared.transforms.Op.the-variants.{Shift, Subst, DShift, DSubst}
 use Rattle.walk.specs.Rule as R
-use Rattle.producer.specs.Machine.{W, _>>=_, give, when_then_else_, open-cell, lowest, make-var, make-pi, make-lam, make-app, make-path, make-plam, make-papp, emit, no-refs, refs-1, refs-2, refs-3, cons-refs, join-refs}
+use Rattle.producer.specs.Machine.{W, _>>=_, give, when_then_else_, open-cell, lowest, intern, make-var, make-lam, make-app, make-path, make-plam, make-papp, emit, no-refs, refs-1, refs-2, refs-3, cons-refs, join-refs}
 use Rattle.producer.specs.Callees.{Callees}
 
 unfoldable pub by-op : Op → (a b c d : ℕ) → ℕ
@@ -17,6 +17,13 @@ by-op (Shift k) a b c d = a
 by-op (Subst k r) a b c d = b
 by-op (DShift k) a b c d = c
 by-op (DSubst k r) a b c d = d
+
+-- of a term of a kind: a variable has several rules, and what is no term has none
+unfoldable pub rule-of : Op → ℕ → ℕ
+-- written by tools/written.py: rules of a kind
+rule-of op k = ifb (eqb k 1) (by-op op R.shift·u R.subst·u R.dshift·u R.dsubst·u) (ifb (eqb k 3) (by-op op R.shift·nat R.subst·nat R.dshift·nat R.dsubst·nat) (ifb (eqb k 4) (by-op op R.shift·zero R.subst·zero R.dshift·zero R.dsubst·zero) (ifb (eqb k 5) (by-op op R.shift·pi R.subst·pi R.dshift·pi R.dsubst·pi) (ifb (eqb k 6) (by-op op R.shift·lam R.subst·lam R.dshift·lam R.dsubst·lam) (ifb (eqb k 7) (by-op op R.shift·app R.subst·app R.dshift·app R.dsubst·app) (ifb (eqb k 8) (by-op op R.shift·path R.subst·path R.dshift·path R.dsubst·path) (ifb (eqb k 9) (by-op op R.shift·plam R.subst·plam R.dshift·plam R.dsubst·plam) (ifb (eqb k 10) (by-op op R.shift·papp R.subst·papp R.dshift·papp R.dsubst·papp) 0))))))))
+
+-- end of rules of a kind
 
 unfoldable pub temit : Op → ℕ → Refs → (p q : ℕ) → W ℕ
 temit (Shift k) rule l p q = emit rule l 9 3 p k q 0 0
@@ -66,25 +73,26 @@ tinterval c r (DSubst k q) = do
 
 -- each kind of term with parts
 
-unfoldable pub transform-pi : Callees → ℕ → Op → (a b : ℕ) → W (ℕ × ℕ)
-transform-pi c i op a b = do
+-- two parts, the second under a variable, and both shown
+unfoldable pub transform-binder : Callees → ℕ → Op → (kind a b : ℕ) → W (ℕ × ℕ)
+transform-binder c i op kind a b = do
   (a′, x) ← c .transform a op
   (inner, refs) ← c .under op false
   (b′, y) ← c .transform b inner
-  finish i op (make-pi a′ b′) (by-op op R.shift·pi R.subst·pi R.dshift·pi R.dsubst·pi) (cons-refs x (join-refs refs (refs-1 y)))
+  finish i op (intern kind a′ b′ 0) (rule-of op kind) (cons-refs x (join-refs refs (refs-1 y)))
 
 unfoldable pub transform-lam : Callees → ℕ → Op → (a b : ℕ) → W (ℕ × ℕ)
 transform-lam c i op a b = do
   (a′, _) ← c .transform a op
   (inner, refs) ← c .under op false
   (b′, y) ← c .transform b inner
-  finish i op (make-lam a′ b′) (by-op op R.shift·lam R.subst·lam R.dshift·lam R.dsubst·lam) (join-refs refs (refs-1 y))
+  finish i op (make-lam a′ b′) (rule-of op 6) (join-refs refs (refs-1 y))
 
 unfoldable pub transform-app : Callees → ℕ → Op → (f a : ℕ) → W (ℕ × ℕ)
 transform-app c i op f a = do
   (f′, x) ← c .transform f op
   (a′, y) ← c .transform a op
-  finish i op (make-app f′ a′) (by-op op R.shift·app R.subst·app R.dshift·app R.dsubst·app) (refs-2 x y)
+  finish i op (make-app f′ a′) (rule-of op 7) (refs-2 x y)
 
 unfoldable pub transform-path : Callees → ℕ → Op → (a b e : ℕ) → W (ℕ × ℕ)
 transform-path c i op a b e = do
@@ -92,24 +100,25 @@ transform-path c i op a b e = do
   (a′, x) ← c .transform a inner
   (b′, y) ← c .transform b op
   (e′, z) ← c .transform e op
-  finish i op (make-path a′ b′ e′) (by-op op R.shift·path R.subst·path R.dshift·path R.dsubst·path) (join-refs refs (refs-3 x y z))
+  finish i op (make-path a′ b′ e′) (rule-of op 8) (join-refs refs (refs-3 x y z))
 
 unfoldable pub transform-plam : Callees → ℕ → Op → (a b : ℕ) → W (ℕ × ℕ)
 transform-plam c i op a b = do
   (inner, refs) ← c .under op true
   (a′, _) ← c .transform a inner
   (b′, y) ← c .transform b inner
-  finish i op (make-plam a′ b′) (by-op op R.shift·plam R.subst·plam R.dshift·plam R.dsubst·plam) (join-refs refs (refs-1 y))
+  finish i op (make-plam a′ b′) (rule-of op 9) (join-refs refs (refs-1 y))
 
 unfoldable pub transform-papp : Callees → ℕ → Op → (p r : ℕ) → W (ℕ × ℕ)
 transform-papp c i op p r = do
   (p′, x) ← c .transform p op
   (r′, refs) ← tinterval c r op
-  finish i op (make-papp p′ r′) (by-op op R.shift·papp R.subst·papp R.dshift·papp R.dsubst·papp) (cons-refs x refs)
+  finish i op (make-papp p′ r′) (rule-of op 10) (cons-refs x refs)
 
+-- a term that is no variable: as it is where it has no parts
 unfoldable pub compound : Callees → ℕ → Op → Cell → W (ℕ × ℕ)
 compound c i op w =
-    when eqb (w .kind) 5 then transform-pi c i op (w .a) (w .b)
+    when eqb (w .kind) 5 then transform-binder c i op 5 (w .a) (w .b)
     else
     (when eqb (w .kind) 6 then transform-lam c i op (w .a) (w .b)
     else
@@ -118,19 +127,12 @@ compound c i op w =
     (when eqb (w .kind) 8 then transform-path c i op (w .a) (w .b) (w .c)
     else
     (when eqb (w .kind) 9 then transform-plam c i op (w .a) (w .b)
-    else transform-papp c i op (w .a) (w .b)))))
+    else
+    (when eqb (w .kind) 10 then transform-papp c i op (w .a) (w .b)
+    else finished i op i (rule-of op (w .kind)) no-refs)))))
 
 unfoldable pub transform-body : Callees → ℕ → Op → W (ℕ × ℕ)
-transform-body c i op =
-    open-cell i λ w.
-    when eqb (w .kind) 1 then finished i op i (by-op op R.shift·u R.subst·u R.dshift·u R.dsubst·u) no-refs
-    else
-    (when eqb (w .kind) 2 then tvar c i (w .a) op
-    else
-    (when eqb (w .kind) 3 then finished i op i (by-op op R.shift·nat R.subst·nat R.dshift·nat R.dsubst·nat) no-refs
-    else
-    (when eqb (w .kind) 4 then finished i op i (by-op op R.shift·zero R.subst·zero R.dshift·zero R.dsubst·zero) no-refs
-    else compound c i op w)))
+transform-body c i op = open-cell i λ w. when eqb (w .kind) 2 then tvar c i (w .a) op else compound c i op w
 
 -- under a binder, of a variable (false) or of a dimension (true); with the rows that this cites
 

@@ -100,12 +100,13 @@ find-var c d g n = do
   (ty, y) ← c .lookup g n
   found (give ty) (refs-2 x y) R.type·v
 
-unfoldable pub find-pi : Callees → (d g a b : ℕ) → W Finding
-find-pi c d g a b = do
+-- two types, the second under a variable of the first: a pi
+unfoldable pub find-binder : Callees → (d g a b rule : ℕ) → W Finding
+find-binder c d g a b rule = do
   (i, x) ← c .universe d g a
   (j, y) ← for-call c (make-cons a g) λ h. c .universe d h b
   z ← c .max i j
-  found (make-universe (greater-of i j)) (refs-3 x y z) R.type·pi
+  found (make-universe (greater-of i j)) (refs-3 x y z) rule
 
 unfoldable pub find-lam : Callees → (d g a body : ℕ) → W Finding
 find-lam c d g a body = do
@@ -171,7 +172,7 @@ find-papp c d g p r = do
 -- a term that has parts
 unfoldable pub find-compound : Callees → (d g : ℕ) → Cell → W Finding
 find-compound c d g w =
-    when eqb (w .kind) 5 then find-pi c d g (w .a) (w .b)
+    when eqb (w .kind) 5 then find-binder c d g (w .a) (w .b) R.type·pi
     else
     (when eqb (w .kind) 6 then find-lam c d g (w .a) (w .b)
     else

@@ -54,169 +54,6 @@ pub fn cite0() -> Refs
     }
 }
 
-// One row cited.
-pub fn cite1(x0: u32) -> Refs
-    ensures { λ r. ⌜ r ≡ refs-1 x0 ⌝ }
-{
-    Refs {
-        count: 1,
-        r0: x0,
-        r1: 0,
-        r2: 0,
-        r3: 0,
-        r4: 0,
-        r5: 0,
-        r6: 0,
-        r7: 0,
-        r8: 0,
-        r9: 0,
-    }
-}
-
-// Two rows cited.
-pub fn cite2(x0: u32, x1: u32) -> Refs
-    ensures { λ r. ⌜ r ≡ refs-2 x0 x1 ⌝ }
-{
-    Refs {
-        count: 2,
-        r0: x0,
-        r1: x1,
-        r2: 0,
-        r3: 0,
-        r4: 0,
-        r5: 0,
-        r6: 0,
-        r7: 0,
-        r8: 0,
-        r9: 0,
-    }
-}
-
-// Three rows cited.
-pub fn cite3(x0: u32, x1: u32, x2: u32) -> Refs
-    ensures { λ r. ⌜ r ≡ refs-3 x0 x1 x2 ⌝ }
-{
-    Refs {
-        count: 3,
-        r0: x0,
-        r1: x1,
-        r2: x2,
-        r3: 0,
-        r4: 0,
-        r5: 0,
-        r6: 0,
-        r7: 0,
-        r8: 0,
-        r9: 0,
-    }
-}
-
-// Four rows cited.
-pub fn cite4(x0: u32, x1: u32, x2: u32, x3: u32) -> Refs
-    ensures { λ r. ⌜ r ≡ refs-4 x0 x1 x2 x3 ⌝ }
-{
-    Refs {
-        count: 4,
-        r0: x0,
-        r1: x1,
-        r2: x2,
-        r3: x3,
-        r4: 0,
-        r5: 0,
-        r6: 0,
-        r7: 0,
-        r8: 0,
-        r9: 0,
-    }
-}
-
-// Five rows cited.
-pub fn cite5(x0: u32, x1: u32, x2: u32, x3: u32, x4: u32) -> Refs
-    ensures { λ r. ⌜ r ≡ refs-5 x0 x1 x2 x3 x4 ⌝ }
-{
-    Refs {
-        count: 5,
-        r0: x0,
-        r1: x1,
-        r2: x2,
-        r3: x3,
-        r4: x4,
-        r5: 0,
-        r6: 0,
-        r7: 0,
-        r8: 0,
-        r9: 0,
-    }
-}
-
-// Six rows cited.
-pub fn cite6(x0: u32, x1: u32, x2: u32, x3: u32, x4: u32, x5: u32) -> Refs
-    ensures { λ r. ⌜ r ≡ refs-6 x0 x1 x2 x3 x4 x5 ⌝ }
-{
-    Refs {
-        count: 6,
-        r0: x0,
-        r1: x1,
-        r2: x2,
-        r3: x3,
-        r4: x4,
-        r5: x5,
-        r6: 0,
-        r7: 0,
-        r8: 0,
-        r9: 0,
-    }
-}
-
-// Seven rows cited.
-pub fn cite7(x0: u32, x1: u32, x2: u32, x3: u32, x4: u32, x5: u32, x6: u32) -> Refs
-    ensures { λ r. ⌜ r ≡ refs-7 x0 x1 x2 x3 x4 x5 x6 ⌝ }
-{
-    Refs {
-        count: 7,
-        r0: x0,
-        r1: x1,
-        r2: x2,
-        r3: x3,
-        r4: x4,
-        r5: x5,
-        r6: x6,
-        r7: 0,
-        r8: 0,
-        r9: 0,
-    }
-}
-
-// Ten rows cited.
-pub fn cite10(
-    x0: u32,
-    x1: u32,
-    x2: u32,
-    x3: u32,
-    x4: u32,
-    x5: u32,
-    x6: u32,
-    x7: u32,
-    x8: u32,
-    x9: u32,
-) -> Refs
-    ensures { λ r. ⌜ r ≡ refs-10 x0 x1 x2 x3 x4 x5 x6 x7 x8 x9 ⌝ }
-{
-    Refs {
-        count: 10,
-        r0: x0,
-        r1: x1,
-        r2: x2,
-        r3: x3,
-        r4: x4,
-        r5: x5,
-        r6: x6,
-        r7: x7,
-        r8: x8,
-        r9: x9,
-    }
-}
-
 // A row cited before others.
 pub fn cite_before(x: u32, refs: Refs) -> Refs
     ensures { λ r. ⌜ r ≡ cons-refs x refs ⌝ }
@@ -235,6 +72,83 @@ pub fn cite_before(x: u32, refs: Refs) -> Refs
         r8: refs.r7,
         r9: refs.r8,
     }
+}
+
+// One row cited.
+pub fn cite1(x0: u32) -> Refs
+    ensures { λ r. ⌜ r ≡ refs-1 x0 ⌝ }
+{
+    let rest = cite0();
+    cite_before(x0, rest)
+}
+
+// Two rows cited.
+pub fn cite2(x0: u32, x1: u32) -> Refs
+    ensures { λ r. ⌜ r ≡ refs-2 x0 x1 ⌝ }
+{
+    let rest = cite1(x1);
+    cite_before(x0, rest)
+}
+
+// Three rows cited.
+pub fn cite3(x0: u32, x1: u32, x2: u32) -> Refs
+    ensures { λ r. ⌜ r ≡ refs-3 x0 x1 x2 ⌝ }
+{
+    let rest = cite2(x1, x2);
+    cite_before(x0, rest)
+}
+
+// Four rows cited.
+pub fn cite4(x0: u32, x1: u32, x2: u32, x3: u32) -> Refs
+    ensures { λ r. ⌜ r ≡ refs-4 x0 x1 x2 x3 ⌝ }
+{
+    let rest = cite3(x1, x2, x3);
+    cite_before(x0, rest)
+}
+
+// Five rows cited.
+pub fn cite5(x0: u32, x1: u32, x2: u32, x3: u32, x4: u32) -> Refs
+    ensures { λ r. ⌜ r ≡ refs-5 x0 x1 x2 x3 x4 ⌝ }
+{
+    let rest = cite4(x1, x2, x3, x4);
+    cite_before(x0, rest)
+}
+
+// Six rows cited.
+pub fn cite6(x0: u32, x1: u32, x2: u32, x3: u32, x4: u32, x5: u32) -> Refs
+    ensures { λ r. ⌜ r ≡ refs-6 x0 x1 x2 x3 x4 x5 ⌝ }
+{
+    let rest = cite5(x1, x2, x3, x4, x5);
+    cite_before(x0, rest)
+}
+
+// Seven rows cited.
+pub fn cite7(x0: u32, x1: u32, x2: u32, x3: u32, x4: u32, x5: u32, x6: u32) -> Refs
+    ensures { λ r. ⌜ r ≡ refs-7 x0 x1 x2 x3 x4 x5 x6 ⌝ }
+{
+    let rest = cite6(x1, x2, x3, x4, x5, x6);
+    cite_before(x0, rest)
+}
+
+// Ten rows cited.
+pub fn cite10(
+    x0: u32,
+    x1: u32,
+    x2: u32,
+    x3: u32,
+    x4: u32,
+    x5: u32,
+    x6: u32,
+    x7: u32,
+    x8: u32,
+    x9: u32,
+) -> Refs
+    ensures { λ r. ⌜ r ≡ refs-10 x0 x1 x2 x3 x4 x5 x6 x7 x8 x9 ⌝ }
+{
+    let rest = cite7(x3, x4, x5, x6, x7, x8, x9);
+    let from2 = cite_before(x2, rest);
+    let from1 = cite_before(x1, from2);
+    cite_before(x0, from1)
 }
 
 // The first row of the one, where it has any, cited before the other.

@@ -1,7 +1,7 @@
 // Transforms of terms: shifts and substitutions, of variables and of dimensions. Each call has less nesting left.
 ghost use mathlib.Core.Path.{_≡_};
-ghost use Rattle.producer.specs.Machine.{machine, end, end-2, end-cited, end-inner, intern};
-ghost use Rattle.producer.specs.Transforms.{by-op, temit, finished, finish, tvar-shift, tvar-subst, tvar, tinterval, transform-pi, transform-lam, transform-app, transform-path, transform-plam, transform-papp, compound, under-subst};
+ghost use Rattle.producer.specs.Machine.{machine, end, end-2, end-cited, end-inner, intern, make-var};
+ghost use Rattle.producer.specs.Transforms.{by-op, rule-of, temit, finished, finish, tvar-shift, tvar-subst, tvar, tinterval, transform-binder, transform-lam, transform-app, transform-path, transform-plam, transform-papp, compound, under-subst};
 ghost use Rattle.producer.specs.Calls.{callees};
 use crate::codes;
 use crate::intervals::IOp;
@@ -46,6 +46,81 @@ pub fn by_op(op: Op, a: u32, b: u32, c: u32, d: u32) -> u32
         Op::Subst(_, _) => b,
         Op::DShift(_) => c,
         Op::DSubst(_, _) => d,
+    }
+}
+
+// The rule of an operation at a term of a kind. A variable has several, by how it compares with `k`: it is not asked for here, nor is
+// what is no term.
+pub fn rule_of(op: Op, kind: u32) -> u32
+    ensures { λ r. ⌜ r ≡ rule-of op kind ⌝ }
+{
+    match kind {
+        // written by tools/written.py: rules of a kind
+        kinds::UNIVERSE => by_op(
+            op,
+            codes::SHIFT_U,
+            codes::SUBST_U,
+            codes::DSHIFT_U,
+            codes::DSUBST_U,
+        ),
+        kinds::NAT => by_op(
+            op,
+            codes::SHIFT_NAT,
+            codes::SUBST_NAT,
+            codes::DSHIFT_NAT,
+            codes::DSUBST_NAT,
+        ),
+        kinds::ZERO => by_op(
+            op,
+            codes::SHIFT_ZERO,
+            codes::SUBST_ZERO,
+            codes::DSHIFT_ZERO,
+            codes::DSUBST_ZERO,
+        ),
+        kinds::PI => by_op(
+            op,
+            codes::SHIFT_PI,
+            codes::SUBST_PI,
+            codes::DSHIFT_PI,
+            codes::DSUBST_PI,
+        ),
+        kinds::LAM => by_op(
+            op,
+            codes::SHIFT_LAM,
+            codes::SUBST_LAM,
+            codes::DSHIFT_LAM,
+            codes::DSUBST_LAM,
+        ),
+        kinds::APP => by_op(
+            op,
+            codes::SHIFT_APP,
+            codes::SUBST_APP,
+            codes::DSHIFT_APP,
+            codes::DSUBST_APP,
+        ),
+        kinds::PATH => by_op(
+            op,
+            codes::SHIFT_PATH,
+            codes::SUBST_PATH,
+            codes::DSHIFT_PATH,
+            codes::DSUBST_PATH,
+        ),
+        kinds::PLAM => by_op(
+            op,
+            codes::SHIFT_PLAM,
+            codes::SUBST_PLAM,
+            codes::DSHIFT_PLAM,
+            codes::DSUBST_PLAM,
+        ),
+        kinds::PAPP => by_op(
+            op,
+            codes::SHIFT_PAPP,
+            codes::SUBST_PAPP,
+            codes::DSHIFT_PAPP,
+            codes::DSUBST_PAPP,
+        ),
+        // end of rules of a kind
+        _ => 0,
     }
 }
 
@@ -98,7 +173,7 @@ impl State {
         }
     }
 
-    // The result is made, then the row.
+    // The result is made, then the row, by the rule of its kind.
     pub fn tmake(
         self,
         rows: &mut [u32],
@@ -109,12 +184,33 @@ impl State {
         a: u32,
         b: u32,
         c: u32,
+        refs: Refs,
+    ) -> Two
+        ensures { λ r. ⌜ end-2 r (now (rows .exit)) (now (cells .exit)) ≡ finish i op (intern kind a b c) (rule-of op kind) refs (machine (now (rows .entry)) (now (cells .entry)) self) ⌝ }
+    {
+        match self.intern(rows, cells, kind, a, b, c) {
+            Got::Is(s, out) => {
+                let rule = rule_of(op, kind);
+                s.finish(rows, cells, i, op, out, rule, refs)
+            }
+            Got::Refused(s, e) => Two::Refused(s, e),
+        }
+    }
+
+    // The same of a variable, which has a rule for each way that it compares.
+    pub fn tmake_var(
+        self,
+        rows: &mut [u32],
+        cells: &mut [u32],
+        i: u32,
+        op: Op,
+        n: u32,
         rule: u32,
         refs: Refs,
     ) -> Two
-        ensures { λ r. ⌜ end-2 r (now (rows .exit)) (now (cells .exit)) ≡ finish i op (intern kind a b c) rule refs (machine (now (rows .entry)) (now (cells .entry)) self) ⌝ }
+        ensures { λ r. ⌜ end-2 r (now (rows .exit)) (now (cells .exit)) ≡ finish i op (make-var n) rule refs (machine (now (rows .entry)) (now (cells .entry)) self) ⌝ }
     {
-        match self.intern(rows, cells, kind, a, b, c) {
+        match self.intern(rows, cells, kinds::VAR, n, 0, 0) {
             Got::Is(s, out) => s.finish(rows, cells, i, op, out, rule, refs),
             Got::Refused(s, e) => Two::Refused(s, e),
         }
@@ -146,18 +242,7 @@ impl State {
             Got::Is(s, x) => {
                 let refs = cite1(x);
                 let up = succ(n);
-                s.tmake(
-                    rows,
-                    cells,
-                    i,
-                    op,
-                    kinds::VAR,
-                    up,
-                    0,
-                    0,
-                    codes::SHIFT_V_GE,
-                    refs,
-                )
+                s.tmake_var(rows, cells, i, op, up, codes::SHIFT_V_GE, refs)
             }
             Got::Refused(s, e) => Two::Refused(s, e),
         }
@@ -193,18 +278,7 @@ impl State {
         match self.comparison(left, rows, cells, k, n, true) {
             Got::Is(s, x) => {
                 let refs = cite1(x);
-                s.tmake(
-                    rows,
-                    cells,
-                    i,
-                    op,
-                    kinds::VAR,
-                    n - 1,
-                    0,
-                    0,
-                    codes::SUBST_V_GT,
-                    refs,
-                )
+                s.tmake_var(rows, cells, i, op, n - 1, codes::SUBST_V_GT, refs)
             }
             Got::Refused(s, e) => Two::Refused(s, e),
         }
@@ -268,50 +342,13 @@ impl State {
         let down = left - 1;
         let s0 = self.deeper(down);
         let cell = read(cells, i);
-        let kind = cell.kind;
-        match kind {
-            kinds::UNIVERSE => {
-                let rule = by_op(
-                    op,
-                    codes::SHIFT_U,
-                    codes::SUBST_U,
-                    codes::DSHIFT_U,
-                    codes::DSUBST_U,
-                );
-                let refs = cite0();
-                return s0.finish(rows, cells, i, op, i, rule, refs);
-            }
-            kinds::VAR => {
-                return s0.tvar(down, rows, cells, i, cell.a, op);
-            }
-            kinds::NAT => {
-                let rule = by_op(
-                    op,
-                    codes::SHIFT_NAT,
-                    codes::SUBST_NAT,
-                    codes::DSHIFT_NAT,
-                    codes::DSUBST_NAT,
-                );
-                let refs = cite0();
-                return s0.finish(rows, cells, i, op, i, rule, refs);
-            }
-            kinds::ZERO => {
-                let rule = by_op(
-                    op,
-                    codes::SHIFT_ZERO,
-                    codes::SUBST_ZERO,
-                    codes::DSHIFT_ZERO,
-                    codes::DSUBST_ZERO,
-                );
-                let refs = cite0();
-                return s0.finish(rows, cells, i, op, i, rule, refs);
-            }
-            _ => {}
+        if cell.kind == kinds::VAR {
+            return s0.tvar(down, rows, cells, i, cell.a, op);
         }
         s0.compound(down, rows, cells, i, op, cell)
     }
 
-    // A term that has parts.
+    // A term that is no variable: by its kind, and as it is where it has no parts.
     pub fn compound(
         self,
         left: u32,
@@ -326,7 +363,7 @@ impl State {
         let kind = cell.kind;
         match kind {
             kinds::PI => {
-                return self.tpi(left, rows, cells, i, op, cell.a, cell.b);
+                return self.tbinder(left, rows, cells, i, op, kinds::PI, cell.a, cell.b);
             }
             kinds::LAM => {
                 return self.tlam(left, rows, cells, i, op, cell.a, cell.b);
@@ -340,23 +377,29 @@ impl State {
             kinds::PLAM => {
                 return self.tplam(left, rows, cells, i, op, cell.a, cell.b);
             }
+            kinds::PAPP => {
+                return self.tpapp(left, rows, cells, i, op, cell.a, cell.b);
+            }
             _ => {}
         }
-        self.tpapp(left, rows, cells, i, op, cell.a, cell.b)
+        let refs = cite0();
+        let rule = rule_of(op, kind);
+        self.finish(rows, cells, i, op, i, rule, refs)
     }
 
-    // A pi: its second part lies under a binder.
-    pub fn tpi(
+    // Two parts, the second under a variable, and both shown: a pi.
+    pub fn tbinder(
         self,
         left: u32,
         rows: &mut [u32],
         cells: &mut [u32],
         i: u32,
         op: Op,
+        kind: u32,
         a: u32,
         b: u32,
     ) -> Two
-        ensures { λ r. ⌜ end-2 r (now (rows .exit)) (now (cells .exit)) ≡ transform-pi (callees left) i op a b (machine (now (rows .entry)) (now (cells .entry)) self) ⌝ }
+        ensures { λ r. ⌜ end-2 r (now (rows .exit)) (now (cells .exit)) ≡ transform-binder (callees left) i op kind a b (machine (now (rows .entry)) (now (cells .entry)) self) ⌝ }
     {
         let q1 = self.transform(left, rows, cells, a, op);
         let Two::Pair(s1, a1, x) = q1 else {
@@ -369,14 +412,7 @@ impl State {
                     return q3;
                 };
                 let refs = cite_before(x, cite_first(first, cite1(y)));
-                let rule = by_op(
-                    op,
-                    codes::SHIFT_PI,
-                    codes::SUBST_PI,
-                    codes::DSHIFT_PI,
-                    codes::DSUBST_PI,
-                );
-                s3.tmake(rows, cells, i, op, kinds::PI, a1, b1, 0, rule, refs)
+                s3.tmake(rows, cells, i, op, kind, a1, b1, 0, refs)
             }
             Inner::Refused(s2, e) => Two::Refused(s2, e),
         }
@@ -406,14 +442,7 @@ impl State {
                     return q3;
                 };
                 let refs = cite_first(first, cite1(y));
-                let rule = by_op(
-                    op,
-                    codes::SHIFT_LAM,
-                    codes::SUBST_LAM,
-                    codes::DSHIFT_LAM,
-                    codes::DSUBST_LAM,
-                );
-                s3.tmake(rows, cells, i, op, kinds::LAM, a1, b1, 0, rule, refs)
+                s3.tmake(rows, cells, i, op, kinds::LAM, a1, b1, 0, refs)
             }
             Inner::Refused(s2, e) => Two::Refused(s2, e),
         }
@@ -441,14 +470,7 @@ impl State {
             return q2;
         };
         let refs = cite2(x, y);
-        let rule = by_op(
-            op,
-            codes::SHIFT_APP,
-            codes::SUBST_APP,
-            codes::DSHIFT_APP,
-            codes::DSUBST_APP,
-        );
-        s2.tmake(rows, cells, i, op, kinds::APP, f1, a1, 0, rule, refs)
+        s2.tmake(rows, cells, i, op, kinds::APP, f1, a1, 0, refs)
     }
 
     // A path type: its first part lies under a dimension.
@@ -480,14 +502,7 @@ impl State {
                     return q3;
                 };
                 let refs = cite_first(first, cite3(x, y, z));
-                let rule = by_op(
-                    op,
-                    codes::SHIFT_PATH,
-                    codes::SUBST_PATH,
-                    codes::DSHIFT_PATH,
-                    codes::DSUBST_PATH,
-                );
-                s3.tmake(rows, cells, i, op, kinds::PATH, a1, b1, c1, rule, refs)
+                s3.tmake(rows, cells, i, op, kinds::PATH, a1, b1, c1, refs)
             }
             Inner::Refused(s0, e) => Two::Refused(s0, e),
         }
@@ -517,14 +532,7 @@ impl State {
                     return q2;
                 };
                 let refs = cite_first(first, cite1(y));
-                let rule = by_op(
-                    op,
-                    codes::SHIFT_PLAM,
-                    codes::SUBST_PLAM,
-                    codes::DSHIFT_PLAM,
-                    codes::DSUBST_PLAM,
-                );
-                s2.tmake(rows, cells, i, op, kinds::PLAM, a1, b1, 0, rule, refs)
+                s2.tmake(rows, cells, i, op, kinds::PLAM, a1, b1, 0, refs)
             }
             Inner::Refused(s0, e) => Two::Refused(s0, e),
         }
@@ -550,14 +558,7 @@ impl State {
         match s1.tinterval(left, rows, cells, r, op) {
             Cited::With(s2, r1, rest) => {
                 let refs = cite_before(x, rest);
-                let rule = by_op(
-                    op,
-                    codes::SHIFT_PAPP,
-                    codes::SUBST_PAPP,
-                    codes::DSHIFT_PAPP,
-                    codes::DSUBST_PAPP,
-                );
-                s2.tmake(rows, cells, i, op, kinds::PAPP, p1, r1, 0, rule, refs)
+                s2.tmake(rows, cells, i, op, kinds::PAPP, p1, r1, 0, refs)
             }
             Cited::Refused(s2, e) => Two::Refused(s2, e),
         }

@@ -2,7 +2,7 @@
 // a reference function is entered with one less nesting left, and an arm of one keeps what is left.
 ghost use mathlib.Core.Path.{_≡_};
 ghost use Rattle.producer.specs.Machine.{machine, end, end-2, end-3, end-4, end-found};
-ghost use Rattle.producer.specs.Typing.{exposed, converted, opened, as-pi, as-path, find-atom, find-var, find-pi, find-lam, find-app, ends, find-path, find-plam, find-papp, find};
+ghost use Rattle.producer.specs.Typing.{exposed, converted, opened, as-pi, as-path, find-atom, find-var, find-binder, find-lam, find-app, ends, find-path, find-plam, find-papp, find};
 ghost use Rattle.producer.specs.Calls.{callees};
 use crate::codes;
 use crate::rows::cite0;
@@ -416,7 +416,7 @@ impl State {
                 return self.atom(left, rows, cells, d, g, kinds::NAT, 0, codes::TYPE_ZERO);
             }
             kinds::PI => {
-                return self.pi(left, rows, cells, d, g, cell.a, cell.b);
+                return self.binder(left, rows, cells, d, g, cell.a, cell.b, codes::TYPE_PI);
             }
             kinds::LAM => {
                 return self.lam(left, rows, cells, d, g, cell.a, cell.b);
@@ -485,8 +485,8 @@ impl State {
         Inferred::Has(s2, ty, refs, codes::TYPE_V)
     }
 
-    // A pi lies in the greater of its parts' universes.
-    pub fn pi(
+    // Two types, the second under a variable of the first, as in a pi: this lies in the greater of their universes.
+    pub fn binder(
         self,
         left: u32,
         rows: &mut [u32],
@@ -495,8 +495,9 @@ impl State {
         g: u32,
         a: u32,
         b: u32,
+        rule: u32,
     ) -> Inferred
-        ensures { λ r. ⌜ end-found r (now (rows .exit)) (now (cells .exit)) ≡ find-pi (callees left) d g a b (machine (now (rows .entry)) (now (cells .entry)) self) ⌝ }
+        ensures { λ r. ⌜ end-found r (now (rows .exit)) (now (cells .exit)) ≡ find-binder (callees left) d g a b rule (machine (now (rows .entry)) (now (cells .entry)) self) ⌝ }
     {
         let q1 = self.universe(left, rows, cells, d, g, a);
         let Two::Pair(s1, i, x) = q1 else {
@@ -520,7 +521,7 @@ impl State {
             return q5.as_inferred();
         };
         let refs = cite3(x, y, z);
-        Inferred::Has(s5, ty, refs, codes::TYPE_PI)
+        Inferred::Has(s5, ty, refs, rule)
     }
 
     // A lam has the pi from its annotation to the type of its body.

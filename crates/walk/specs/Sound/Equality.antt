@@ -8,7 +8,7 @@ use Rattle.walk.specs.Syntax.{quote, quote?, Interval, I0, I1, Dim, Neg,
 use Rattle.walk.specs.Judgment.{interval, dsubst, has, eq}
 use Rattle.walk.specs.Rules.{Follows, by·eq·refl, by·eq·sym, by·eq·trans, by·eq·beta, by·eq·pbeta, by·eq·p0, by·eq·p1}
 use Rattle.walk.specs.State.{Row}
-use Rattle.walk.specs.Walk.{Subst, DSubst, Callees, typing, lam-parts, plam-body, equation, beta, at-end, pbeta, ends, reduce-body, rounds, normalize-body, equal-body}
+use Rattle.walk.specs.Walk.{Subst, DSubst, Callees, typing, lam-parts, plam-parts, equation, beta, at-end, pbeta, ends, reduce-body, rounds, normalize-body, equal-body}
 use Rattle.walk.specs.Demand.{At, none-cited, _also_, same}
 use Rattle.walk.specs.Sound.Logic.{lift, _and_by_, bind, refusing, giving, branch, cases, emitted, Keeps}
 use Rattle.walk.specs.Sound.Says.{Stepped, Sound}
@@ -59,8 +59,8 @@ module _ (c : Callees) (S : Sound c) where
   reduce-sound d g (PathLam a b) = giving none λ _ _. tt
   reduce-sound d g (PathApp p r) =
       bind (S .infer d g p) λ o₀ _ _ h₀. bind (as-path-sound c S d g p (o₀ .0) (o₀ .1) h₀) λ o₁ _ _ h₁. bind (S .transform (o₁ .0) (DSubst 0 r)) λ o₂ _ e₂ h₂.
-      cases (plam-body p)
-      (λ body q. pbeta-sound d g p r body (o₁ .0) (o₁ .1) (o₁ .2) (o₂ .0) (o₁ .3) (o₂ .1) (ap quote (plam-is p body q)) (lift e₂ h₁) h₂)
+      cases (plam-parts p)
+      (λ ab q. pbeta-sound d g p r (ab .1) (o₁ .0) (o₁ .1) (o₁ .2) (o₂ .0) (o₁ .3) (o₂ .1) (ap quote (plam-is p ab q)) (lift e₂ h₁) h₂)
       (λ _. ends-sound d g p r (o₁ .0) (o₁ .1) (o₁ .2) (o₂ .0) (o₁ .3) (o₂ .1) (lift e₂ h₁) h₂)
 
   rounds-sound : {rs : List Row} (left d : ℕ) (g : Context) (t ty current : Term) (x : ℕ) → At x (equation d g t current ty) rs → Keeps rs (rounds left c d g t ty current x) (λ o. At (o .1) (equation d g t (o .0) ty))

@@ -8,66 +8,66 @@ use Rattle.walk.specs.Syntax.{quote, Interval, Term, Universe, Var, Nat,
 use Rattle.walk.specs.Judgment.{Judgment, subst}
 use Rattle.walk.specs.Rules.{Follows, by·shift·u, by·shift·nat, by·shift·zero, by·shift·v·lt, by·shift·v·ge, by·shift·pi, by·shift·lam, by·shift·app, by·shift·path, by·shift·plam, by·shift·papp, by·subst·u, by·subst·nat, by·subst·zero, by·subst·v·hit, by·subst·v·lt, by·subst·v·gt, by·subst·pi, by·subst·lam, by·subst·app, by·subst·path, by·subst·plam, by·subst·papp, by·dshift·u, by·dshift·nat, by·dshift·zero, by·dshift·v, by·dshift·pi, by·dshift·lam, by·dshift·app, by·dshift·path, by·dshift·plam, by·dshift·papp, by·dsubst·u, by·dsubst·nat, by·dsubst·zero, by·dsubst·v, by·dsubst·pi, by·dsubst·lam, by·dsubst·app, by·dsubst·path, by·dsubst·plam, by·dsubst·papp}
 use Rattle.walk.specs.State.{of-term, Row}
-use Rattle.walk.specs.Walk.{Op, Shift, Subst, DShift, DSubst, IShift, ISubst, Callees, under-body, transformed, by-op, finish, tvar-above, tvar, tinterval, transform-body}
+use Rattle.walk.specs.Walk.{Op, Shift, Subst, DShift, DSubst, IShift, ISubst, Callees, under-body, transformed, u-rule, nat-rule, zero-rule, pi-rule, lam-rule, app-rule, path-rule, plam-rule, papp-rule, finish, tvar-above, tvar, tinterval, tbinder, transform-body}
 use Rattle.walk.specs.Demand.{At, Cites, none-cited, _also_}
 use Rattle.walk.specs.Sound.Logic.{lift, lifts, append, bind, refusing, making, giving, branch, emitted, counting, Keeps}
 use Rattle.walk.specs.Sound.Says.{Under, u-shift, u-subst, u-dshift, u-dsubst, d-shift, d-subst, d-dshift, d-dsubst, Lifted, Inside, i-shift, i-subst, i-dshift, i-dsubst, Moved, Sound}
 use Rattle.walk.specs.Rule as R
 
 -- a rule for each operation
-u-rule : (l : ℕ) (op : Op) → Follows (by-op op R.shift·u R.subst·u R.dshift·u R.dsubst·u) [] (transformed (Universe l) op (Universe l))
-u-rule l (Shift k) = by·shift·u
-u-rule l (Subst k r) = by·subst·u
-u-rule l (DShift k) = by·dshift·u
-u-rule l (DSubst k q) = by·dsubst·u
+u-follows : (l : ℕ) (op : Op) → Follows (u-rule op) [] (transformed (Universe l) op (Universe l))
+u-follows l (Shift k) = by·shift·u
+u-follows l (Subst k r) = by·subst·u
+u-follows l (DShift k) = by·dshift·u
+u-follows l (DSubst k q) = by·dsubst·u
 
-nat-rule : (op : Op) → Follows (by-op op R.shift·nat R.subst·nat R.dshift·nat R.dsubst·nat) [] (transformed Nat op Nat)
-nat-rule (Shift k) = by·shift·nat
-nat-rule (Subst k r) = by·subst·nat
-nat-rule (DShift k) = by·dshift·nat
-nat-rule (DSubst k q) = by·dsubst·nat
+nat-follows : (op : Op) → Follows (nat-rule op) [] (transformed Nat op Nat)
+nat-follows (Shift k) = by·shift·nat
+nat-follows (Subst k r) = by·subst·nat
+nat-follows (DShift k) = by·dshift·nat
+nat-follows (DSubst k q) = by·dsubst·nat
 
-zero-rule : (op : Op) → Follows (by-op op R.shift·zero R.subst·zero R.dshift·zero R.dsubst·zero) [] (transformed Zero op Zero)
-zero-rule (Shift k) = by·shift·zero
-zero-rule (Subst k r) = by·subst·zero
-zero-rule (DShift k) = by·dshift·zero
-zero-rule (DSubst k q) = by·dsubst·zero
+zero-follows : (op : Op) → Follows (zero-rule op) [] (transformed Zero op Zero)
+zero-follows (Shift k) = by·shift·zero
+zero-follows (Subst k r) = by·subst·zero
+zero-follows (DShift k) = by·dshift·zero
+zero-follows (DSubst k q) = by·dsubst·zero
 
-app-rule : (f f′ a a′ : Term) (op : Op) → Follows (by-op op R.shift·app R.subst·app R.dshift·app R.dsubst·app) (transformed f op f′ ∷ transformed a op a′ ∷ []) (transformed (App f a) op (App f′ a′))
-app-rule f f′ a a′ (Shift k) = by·shift·app
-app-rule f f′ a a′ (Subst k r) = by·subst·app
-app-rule f f′ a a′ (DShift k) = by·dshift·app
-app-rule f f′ a a′ (DSubst k q) = by·dsubst·app
+app-follows : (f f′ a a′ : Term) (op : Op) → Follows (app-rule op) (transformed f op f′ ∷ transformed a op a′ ∷ []) (transformed (App f a) op (App f′ a′))
+app-follows f f′ a a′ (Shift k) = by·shift·app
+app-follows f f′ a a′ (Subst k r) = by·subst·app
+app-follows f f′ a a′ (DShift k) = by·dshift·app
+app-follows f f′ a a′ (DSubst k q) = by·dsubst·app
 
-pi-rule : {op op′ : Op} {js : List Judgment} (a a′ b b′ : Term) → Under op false op′ js → Follows (by-op op R.shift·pi R.subst·pi R.dshift·pi R.dsubst·pi) (transformed a op a′ ∷ js ++ transformed b op′ b′ ∷ []) (transformed (Pi a b) op (Pi a′ b′))
-pi-rule a a′ b b′ u-shift = by·shift·pi
-pi-rule a a′ b b′ u-subst = by·subst·pi
-pi-rule a a′ b b′ u-dshift = by·dshift·pi
-pi-rule a a′ b b′ u-dsubst = by·dsubst·pi
+pi-follows : {op op′ : Op} {js : List Judgment} (a a′ b b′ : Term) → Under op false op′ js → Follows (pi-rule op) (transformed a op a′ ∷ js ++ transformed b op′ b′ ∷ []) (transformed (Pi a b) op (Pi a′ b′))
+pi-follows a a′ b b′ u-shift = by·shift·pi
+pi-follows a a′ b b′ u-subst = by·subst·pi
+pi-follows a a′ b b′ u-dshift = by·dshift·pi
+pi-follows a a′ b b′ u-dsubst = by·dsubst·pi
 
-lam-rule : {op op′ : Op} {js : List Judgment} (a a′ b b′ : Term) → Under op false op′ js → Follows (by-op op R.shift·lam R.subst·lam R.dshift·lam R.dsubst·lam) (js ++ transformed b op′ b′ ∷ []) (transformed (Lam a b) op (Lam a′ b′))
-lam-rule a a′ b b′ u-shift = by·shift·lam
-lam-rule a a′ b b′ u-subst = by·subst·lam
-lam-rule a a′ b b′ u-dshift = by·dshift·lam
-lam-rule a a′ b b′ u-dsubst = by·dsubst·lam
+lam-follows : {op op′ : Op} {js : List Judgment} (a a′ b b′ : Term) → Under op false op′ js → Follows (lam-rule op) (js ++ transformed b op′ b′ ∷ []) (transformed (Lam a b) op (Lam a′ b′))
+lam-follows a a′ b b′ u-shift = by·shift·lam
+lam-follows a a′ b b′ u-subst = by·subst·lam
+lam-follows a a′ b b′ u-dshift = by·dshift·lam
+lam-follows a a′ b b′ u-dsubst = by·dsubst·lam
 
-path-rule : {op op′ : Op} {js : List Judgment} (a a′ b b′ e e′ : Term) → Under op true op′ js → Follows (by-op op R.shift·path R.subst·path R.dshift·path R.dsubst·path) (js ++ transformed a op′ a′ ∷ transformed b op b′ ∷ transformed e op e′ ∷ []) (transformed (Path a b e) op (Path a′ b′ e′))
-path-rule a a′ b b′ e e′ d-shift = by·shift·path
-path-rule a a′ b b′ e e′ d-subst = by·subst·path
-path-rule a a′ b b′ e e′ d-dshift = by·dshift·path
-path-rule a a′ b b′ e e′ d-dsubst = by·dsubst·path
+path-follows : {op op′ : Op} {js : List Judgment} (a a′ b b′ e e′ : Term) → Under op true op′ js → Follows (path-rule op) (js ++ transformed a op′ a′ ∷ transformed b op b′ ∷ transformed e op e′ ∷ []) (transformed (Path a b e) op (Path a′ b′ e′))
+path-follows a a′ b b′ e e′ d-shift = by·shift·path
+path-follows a a′ b b′ e e′ d-subst = by·subst·path
+path-follows a a′ b b′ e e′ d-dshift = by·dshift·path
+path-follows a a′ b b′ e e′ d-dsubst = by·dsubst·path
 
-plam-rule : {op op′ : Op} {js : List Judgment} (a a′ b b′ : Term) → Under op true op′ js → Follows (by-op op R.shift·plam R.subst·plam R.dshift·plam R.dsubst·plam) (js ++ transformed b op′ b′ ∷ []) (transformed (PathLam a b) op (PathLam a′ b′))
-plam-rule a a′ b b′ d-shift = by·shift·plam
-plam-rule a a′ b b′ d-subst = by·subst·plam
-plam-rule a a′ b b′ d-dshift = by·dshift·plam
-plam-rule a a′ b b′ d-dsubst = by·dsubst·plam
+plam-follows : {op op′ : Op} {js : List Judgment} (a a′ b b′ : Term) → Under op true op′ js → Follows (plam-rule op) (js ++ transformed b op′ b′ ∷ []) (transformed (PathLam a b) op (PathLam a′ b′))
+plam-follows a a′ b b′ d-shift = by·shift·plam
+plam-follows a a′ b b′ d-subst = by·subst·plam
+plam-follows a a′ b b′ d-dshift = by·dshift·plam
+plam-follows a a′ b b′ d-dsubst = by·dsubst·plam
 
-papp-rule : {op : Op} {js : List Judgment} (p p′ : Term) {r r′ : Interval} → Inside r op r′ js → Follows (by-op op R.shift·papp R.subst·papp R.dshift·papp R.dsubst·papp) (transformed p op p′ ∷ js) (transformed (PathApp p r) op (PathApp p′ r′))
-papp-rule p p′ i-shift = by·shift·papp
-papp-rule p p′ i-subst = by·subst·papp
-papp-rule p p′ i-dshift = by·dshift·papp
-papp-rule p p′ i-dsubst = by·dsubst·papp
+papp-follows : {op : Op} {js : List Judgment} (p p′ : Term) {r r′ : Interval} → Inside r op r′ js → Follows (papp-rule op) (transformed p op p′ ∷ js) (transformed (PathApp p r) op (PathApp p′ r′))
+papp-follows p p′ i-shift = by·shift·papp
+papp-follows p p′ i-subst = by·subst·papp
+papp-follows p p′ i-dshift = by·dshift·papp
+papp-follows p p′ i-dsubst = by·dsubst·papp
 
 -- the end of a transform
 finished : {rs : List Row} {refs : List ℕ} {js : List Judgment} {rule : ℕ} (t : Term) (op : Op) (out : Term) → Cites rs refs js → Follows rule js (transformed t op out) → Keeps rs (finish t op out rule refs) (λ o. At (o .1) (transformed t op (o .0)))
@@ -111,27 +111,32 @@ module _ (c : Callees) (S : Sound c) where
   tinterval-sound r (DShift k) = bind (S .itransform r (IShift k)) λ o _ _ h. giving _ λ _ e. record { premises = _; cited = lift e h also none-cited; how = i-dshift }
   tinterval-sound r (DSubst k q) = bind (S .itransform r (ISubst k q)) λ o _ _ h. giving _ λ _ e. record { premises = _; cited = lift e h also none-cited; how = i-dsubst }
 
+  -- each rule's own part is that its conclusion follows
+  tbinder-sound : {rs : List Row} (node : Term → Term → Term) (rule : Op → ℕ) (a b : Term) (op : Op) → ((op′ : Op) (js : List Judgment) (a′ b′ : Term) → Under op false op′ js → Follows (rule op) (transformed a op a′ ∷ js ++ transformed b op′ b′ ∷ []) (transformed (node a b) op (node a′ b′))) → Keeps rs (tbinder c node rule a b op) (λ o. At (o .1) (transformed (node a b) op (o .0)))
+  unfolding tbinder
+  tbinder-sound node rule a b op follows =
+      bind (S .transform a op) λ o₁ _ _ h₁. bind (S .under op false) λ o₂ _ e₂ h₂. bind (S .transform b (o₂ .0)) λ o₃ _ e₃ h₃.
+      finished (node a b) op (node (o₁ .0) (o₃ .0)) (append (lifts e₃ (lift e₂ h₁ also h₂ .cited)) (h₃ also none-cited)) (follows _ _ (o₁ .0) (o₃ .0) (h₂ .how))
+
   pub transform-sound : {rs : List Row} (t : Term) (op : Op) → Keeps rs (transform-body c t op) (λ o. At (o .1) (transformed t op (o .0)))
   unfolding transform-body
-  transform-sound (Universe l) op = finished (Universe l) op (Universe l) none-cited (u-rule l op)
+  transform-sound (Universe l) op = finished (Universe l) op (Universe l) none-cited (u-follows l op)
   transform-sound (Var n) op = tvar-sound n op
-  transform-sound Nat op = finished Nat op Nat none-cited (nat-rule op)
-  transform-sound Zero op = finished Zero op Zero none-cited (zero-rule op)
-  transform-sound (Pi a b) op =
-      bind (S .transform a op) λ o₁ _ _ h₁. bind (S .under op false) λ o₂ _ e₂ h₂. bind (S .transform b (o₂ .0)) λ o₃ _ e₃ h₃.
-      finished (Pi a b) op (Pi (o₁ .0) (o₃ .0)) (append (lifts e₃ (lift e₂ h₁ also h₂ .cited)) (h₃ also none-cited)) (pi-rule a (o₁ .0) b (o₃ .0) (h₂ .how))
+  transform-sound Nat op = finished Nat op Nat none-cited (nat-follows op)
+  transform-sound Zero op = finished Zero op Zero none-cited (zero-follows op)
+  transform-sound (Pi a b) op = tbinder-sound Pi pi-rule a b op λ _ _ a′ b′ how. pi-follows a a′ b b′ how
   transform-sound (Lam a b) op =
       bind (S .transform a op) λ o₁ _ _ h₁. bind (S .under op false) λ o₂ _ e₂ h₂. bind (S .transform b (o₂ .0)) λ o₃ _ e₃ h₃.
-      finished (Lam a b) op (Lam (o₁ .0) (o₃ .0)) (append (lifts e₃ (h₂ .cited)) (h₃ also none-cited)) (lam-rule a (o₁ .0) b (o₃ .0) (h₂ .how))
+      finished (Lam a b) op (Lam (o₁ .0) (o₃ .0)) (append (lifts e₃ (h₂ .cited)) (h₃ also none-cited)) (lam-follows a (o₁ .0) b (o₃ .0) (h₂ .how))
   transform-sound (App f a) op =
       bind (S .transform f op) λ o₁ _ _ h₁. bind (S .transform a op) λ o₂ _ e₂ h₂.
-      finished (App f a) op (App (o₁ .0) (o₂ .0)) (lift e₂ h₁ also h₂ also none-cited) (app-rule f (o₁ .0) a (o₂ .0) op)
+      finished (App f a) op (App (o₁ .0) (o₂ .0)) (lift e₂ h₁ also h₂ also none-cited) (app-follows f (o₁ .0) a (o₂ .0) op)
   transform-sound (Path a b e) op =
       bind (S .under op true) λ o₀ _ _ h₀. bind (S .transform a (o₀ .0)) λ o₁ _ e₁ h₁. bind (S .transform b op) λ o₂ _ e₂ h₂. bind (S .transform e op) λ o₃ _ e₃ h₃.
-      finished (Path a b e) op (Path (o₁ .0) (o₂ .0) (o₃ .0)) (append (lifts e₃ (lifts e₂ (lifts e₁ (h₀ .cited)))) (lift e₃ (lift e₂ h₁) also lift e₃ h₂ also h₃ also none-cited)) (path-rule a (o₁ .0) b (o₂ .0) e (o₃ .0) (h₀ .how))
+      finished (Path a b e) op (Path (o₁ .0) (o₂ .0) (o₃ .0)) (append (lifts e₃ (lifts e₂ (lifts e₁ (h₀ .cited)))) (lift e₃ (lift e₂ h₁) also lift e₃ h₂ also h₃ also none-cited)) (path-follows a (o₁ .0) b (o₂ .0) e (o₃ .0) (h₀ .how))
   transform-sound (PathLam a b) op =
       bind (S .under op true) λ o₀ _ _ h₀. bind (S .transform a (o₀ .0)) λ o₁ _ e₁ h₁. bind (S .transform b (o₀ .0)) λ o₂ _ e₂ h₂.
-      finished (PathLam a b) op (PathLam (o₁ .0) (o₂ .0)) (append (lifts e₂ (lifts e₁ (h₀ .cited))) (h₂ also none-cited)) (plam-rule a (o₁ .0) b (o₂ .0) (h₀ .how))
+      finished (PathLam a b) op (PathLam (o₁ .0) (o₂ .0)) (append (lifts e₂ (lifts e₁ (h₀ .cited))) (h₂ also none-cited)) (plam-follows a (o₁ .0) b (o₂ .0) (h₀ .how))
   transform-sound (PathApp p r) op =
       bind (S .transform p op) λ o₁ _ _ h₁. bind (tinterval-sound r op) λ o₂ _ e₂ h₂.
-      finished (PathApp p r) op (PathApp (o₁ .0) (o₂ .0)) (lift e₂ h₁ also h₂ .cited) (papp-rule p (o₁ .0) (h₂ .how))
+      finished (PathApp p r) op (PathApp (o₁ .0) (o₂ .0)) (lift e₂ h₁ also h₂ .cited) (papp-follows p (o₁ .0) (h₂ .how))

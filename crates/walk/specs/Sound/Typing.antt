@@ -1,13 +1,14 @@
 -- The rows of infer, universe, check and expose state what they should.
 use Prim.Native.Nat.{ℕ, suc}
-use mathlib.Core.List.{List}
+use mathlib.Core.List.{List, [], _∷_}
 use native.Mathlib.Decide.{ℕ-discrete}
 use lib.Dec.{lit<}
 use Rattle.walk.specs.Syntax.{quote, quote?, I0, I1, Term, Universe, Var, Nat, Zero, Pi, Lam, App, Path, PathLam, PathApp, Context, Cons}
-use Rattle.walk.specs.Judgment.{Judgment}
+use Rattle.walk.specs.Judgment.{Judgment, max}
 use Rattle.walk.specs.Rules.{Follows, by·type·u, by·type·nat, by·type·zero, by·type·v, by·type·pi, by·type·lam, by·type·app, by·type·path, by·type·plam, by·type·papp, by·type·conv}
+use Rattle.walk.specs.Rule as R
 use Rattle.walk.specs.State.{of-term, Row, key}
-use Rattle.walk.specs.Walk.{Subst, DSubst, Found, Callees, typing, level, pi-parts, path-parts, expose-body, universe-body, check-body, as-pi, as-path, found, find, new-infer, infer-body}
+use Rattle.walk.specs.Walk.{Subst, DSubst, Found, Callees, typing, level, pi-parts, path-parts, expose-body, universe-body, check-body, as-pi, as-path, found, find-binder, find, new-infer, infer-body}
 use Rattle.walk.specs.Demand.{At, Cites, none-cited, _also_, same}
 use Rattle.walk.specs.Sound.Logic.{lift, lifts, _and_by_, bind, refusing, making, giving, branch, cases, emitted, counting, recalling, remembering, convert, Keeps}
 use Rattle.walk.specs.Sound.Says.{Sound}
@@ -65,6 +66,12 @@ module _ (c : Callees) (S : Sound c) where
       (λ ab q. giving (ab .0, ab .1, ab .2, x) λ _ e. lift e (rw (path-is ty ab q) at h))
       (λ _. bind (convert (S .expose d g f ty x h)) λ o _ _ h′. cases (path-parts (o .0)) (λ ab q. giving (ab .0, ab .1, ab .2, o .1) λ _ e. lift e (rw (path-is (o .0) ab q) at h′)) (λ _. refusing (lit< tt)))
 
+  find-binder-sound : {rs : List Row} {t : Term} (d : ℕ) (g : Context) (a b : Term) (rule : ℕ) → ((i j k : ℕ) → Follows rule (typing d g a (Universe i) ∷ typing d (Cons a g) b (Universe j) ∷ max i j k ∷ []) (typing d g t (Universe k))) → Keeps rs (find-binder c d g a b rule) (Finds d g t)
+  unfolding find-binder
+  find-binder-sound d g a b rule follows =
+      bind (S .universe d g a) λ o₁ _ _ h₁. bind (S .universe d (Cons a g) b) λ o₂ _ e₂ h₂. bind (S .max (o₁ .0) (o₂ .0)) λ _ _ e₃ h₃.
+      finding _ (lift e₃ (lift e₂ h₁) also lift e₃ h₂ also h₃ also none-cited) (follows _ _ _)
+
   find-sound : {rs : List Row} (d : ℕ) (g : Context) (t : Term) → Keeps rs (find c d g t) (Finds d g t)
   unfolding find
   find-sound d g (Universe l) = bind (S .ctx d g) λ _ _ _ h. making _ l (S .more l) (finding _ (h also none-cited) by·type·u)
@@ -73,9 +80,7 @@ module _ (c : Callees) (S : Sound c) where
   find-sound d g (Var n) =
       bind (S .ctx d g) λ _ _ _ h₁. bind (S .lookup g n) λ _ _ e₂ h₂.
       finding _ (lift e₂ h₁ also h₂ also none-cited) by·type·v
-  find-sound d g (Pi a b) =
-      bind (S .universe d g a) λ o₁ _ _ h₁. bind (S .universe d (Cons a g) b) λ o₂ _ e₂ h₂. bind (S .max (o₁ .0) (o₂ .0)) λ _ _ e₃ h₃.
-      finding _ (lift e₃ (lift e₂ h₁) also lift e₃ h₂ also h₃ also none-cited) by·type·pi
+  find-sound d g (Pi a b) = find-binder-sound d g a b R.type·pi λ _ _ _. by·type·pi
   find-sound d g (Lam a body) =
       bind (S .universe d g a) λ _ _ _ h₁. bind (S .infer d (Cons a g) body) λ o₂ _ e₂ h₂. bind (S .universe d (Cons a g) (o₂ .0)) λ _ _ e₃ h₃.
       finding _ (lift e₃ (lift e₂ h₁) also lift e₃ h₂ also h₃ also none-cited) by·type·lam

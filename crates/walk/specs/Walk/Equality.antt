@@ -8,7 +8,7 @@ use Rattle.walk.specs.Rule as R
 use Rattle.walk.specs.Refusal as Refusal
 use Rattle.walk.specs.State.{M, _>>=_, pure, refuse, if_then_else_, from_get_or_, emit}
 use Rattle.walk.specs.Walk.Reference.{Subst, DSubst, Step, Callees}
-use Rattle.walk.specs.Walk.Typing.{lam-parts, plam-body, as-path}
+use Rattle.walk.specs.Walk.Typing.{lam-parts, plam-parts, as-path}
 
 abbrev pub equation : ℕ → Context → Term → Term → Term → Judgment
 equation d g a b ty = eq d (quotes g) (quote a) (quote b) (quote ty)
@@ -62,7 +62,7 @@ reduce-body c d g (PathApp p r) = do
   (pty, x₀) ← c .infer d g p
   (a, b, e, x) ← as-path c d g p pty x₀
   (ty, y) ← c .transform a (DSubst 0 r)
-  from plam-body p get (λ body. pbeta c d g p r body ty x y) or ends c d g p r b e ty x y
+  from plam-parts p get (λ ab. pbeta c d g p r (ab .1) ty x y) or ends c d g p r b e ty x y
 
 -- reduce at the root while that goes, at most `left` times
 unfoldable pub rounds : ℕ → Callees → ℕ → Context → Term → Term → Term → ℕ → M (Term × ℕ)

@@ -45,6 +45,37 @@ by-op (Subst k r) a b c d = b
 by-op (DShift k) a b c d = c
 by-op (DSubst k r) a b c d = d
 
+-- the rule for each operation, of each kind that has one for it
+-- written by tools/written.py: rules of a kind
+abbrev pub u-rule : Op → ℕ
+u-rule op = by-op op R.shift·u R.subst·u R.dshift·u R.dsubst·u
+
+abbrev pub nat-rule : Op → ℕ
+nat-rule op = by-op op R.shift·nat R.subst·nat R.dshift·nat R.dsubst·nat
+
+abbrev pub zero-rule : Op → ℕ
+zero-rule op = by-op op R.shift·zero R.subst·zero R.dshift·zero R.dsubst·zero
+
+abbrev pub pi-rule : Op → ℕ
+pi-rule op = by-op op R.shift·pi R.subst·pi R.dshift·pi R.dsubst·pi
+
+abbrev pub lam-rule : Op → ℕ
+lam-rule op = by-op op R.shift·lam R.subst·lam R.dshift·lam R.dsubst·lam
+
+abbrev pub app-rule : Op → ℕ
+app-rule op = by-op op R.shift·app R.subst·app R.dshift·app R.dsubst·app
+
+abbrev pub path-rule : Op → ℕ
+path-rule op = by-op op R.shift·path R.subst·path R.dshift·path R.dsubst·path
+
+abbrev pub plam-rule : Op → ℕ
+plam-rule op = by-op op R.shift·plam R.subst·plam R.dshift·plam R.dsubst·plam
+
+abbrev pub papp-rule : Op → ℕ
+papp-rule op = by-op op R.shift·papp R.subst·papp R.dshift·papp R.dsubst·papp
+
+-- end of rules of a kind
+
 unfoldable pub finish : Term → Op → Term → ℕ → List ℕ → M (Term × ℕ)
 finish t op out rule refs = do
   _ ← count-all (of-term out)
@@ -84,37 +115,41 @@ tinterval c r (DSubst k q) = do
   (r′, x) ← c .itransform r (ISubst k q)
   pure (r′, x ∷ [])
 
-unfoldable pub transform-body : Callees → Term → Op → M (Term × ℕ)
-transform-body c (Universe l) op = finish (Universe l) op (Universe l) (by-op op R.shift·u R.subst·u R.dshift·u R.dsubst·u) []
-transform-body c (Var n) op = tvar c n op
-transform-body c Nat op = finish Nat op Nat (by-op op R.shift·nat R.subst·nat R.dshift·nat R.dsubst·nat) []
-transform-body c Zero op = finish Zero op Zero (by-op op R.shift·zero R.subst·zero R.dshift·zero R.dsubst·zero) []
-transform-body c (Pi a b) op = do
+-- two parts, the second under a variable, and both shown: a pi
+unfoldable pub tbinder : Callees → (Term → Term → Term) → (Op → ℕ) → Term → Term → Op → M (Term × ℕ)
+tbinder c node rule a b op = do
   (a′, x) ← c .transform a op
   (inner, refs) ← c .under op false
   (b′, y) ← c .transform b inner
-  finish (Pi a b) op (Pi a′ b′) (by-op op R.shift·pi R.subst·pi R.dshift·pi R.dsubst·pi) (x ∷ refs ++ y ∷ [])
+  finish (node a b) op (node a′ b′) (rule op) (x ∷ refs ++ y ∷ [])
+
+unfoldable pub transform-body : Callees → Term → Op → M (Term × ℕ)
+transform-body c (Universe l) op = finish (Universe l) op (Universe l) (u-rule op) []
+transform-body c (Var n) op = tvar c n op
+transform-body c Nat op = finish Nat op Nat (nat-rule op) []
+transform-body c Zero op = finish Zero op Zero (zero-rule op) []
+transform-body c (Pi a b) op = tbinder c Pi pi-rule a b op
 transform-body c (Lam a b) op = do
   (a′, _) ← c .transform a op
   (inner, refs) ← c .under op false
   (b′, y) ← c .transform b inner
-  finish (Lam a b) op (Lam a′ b′) (by-op op R.shift·lam R.subst·lam R.dshift·lam R.dsubst·lam) (refs ++ y ∷ [])
+  finish (Lam a b) op (Lam a′ b′) (lam-rule op) (refs ++ y ∷ [])
 transform-body c (App f a) op = do
   (f′, x) ← c .transform f op
   (a′, y) ← c .transform a op
-  finish (App f a) op (App f′ a′) (by-op op R.shift·app R.subst·app R.dshift·app R.dsubst·app) (x ∷ y ∷ [])
+  finish (App f a) op (App f′ a′) (app-rule op) (x ∷ y ∷ [])
 transform-body c (Path a b e) op = do
   (inner, refs) ← c .under op true
   (a′, x) ← c .transform a inner
   (b′, y) ← c .transform b op
   (e′, z) ← c .transform e op
-  finish (Path a b e) op (Path a′ b′ e′) (by-op op R.shift·path R.subst·path R.dshift·path R.dsubst·path) (refs ++ x ∷ y ∷ z ∷ [])
+  finish (Path a b e) op (Path a′ b′ e′) (path-rule op) (refs ++ x ∷ y ∷ z ∷ [])
 transform-body c (PathLam a b) op = do
   (inner, refs) ← c .under op true
   (a′, _) ← c .transform a inner
   (b′, y) ← c .transform b inner
-  finish (PathLam a b) op (PathLam a′ b′) (by-op op R.shift·plam R.subst·plam R.dshift·plam R.dsubst·plam) (refs ++ y ∷ [])
+  finish (PathLam a b) op (PathLam a′ b′) (plam-rule op) (refs ++ y ∷ [])
 transform-body c (PathApp p r) op = do
   (p′, x) ← c .transform p op
   (r′, refs) ← tinterval c r op
-  finish (PathApp p r) op (PathApp p′ r′) (by-op op R.shift·papp R.subst·papp R.dshift·papp R.dsubst·papp) (x ∷ refs)
+  finish (PathApp p r) op (PathApp p′ r′) (papp-rule op) (x ∷ refs)

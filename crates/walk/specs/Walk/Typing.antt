@@ -50,6 +50,7 @@ if-so (no h) a = none
 abbrev pub of-kind : {A : Type 0} → Kind → View → A → Option A
 of-kind k v a = if-so (Kind-discrete (v .kind) k) a
 
+-- written by tools/written.py: parts of a kind
 abbrev pub level : Term → Option ℕ
 level t = of-kind k-u (view t) (view t .number)
 
@@ -62,8 +63,10 @@ lam-parts t = of-kind k-lam (view t) (view t .one, view t .two)
 abbrev pub path-parts : Term → Option (Term × Term × Term)
 path-parts t = of-kind k-path (view t) (view t .one, view t .two, view t .three)
 
-abbrev pub plam-body : Term → Option Term
-plam-body t = of-kind k-plam (view t) (view t .two)
+abbrev pub plam-parts : Term → Option (Term × Term)
+plam-parts t = of-kind k-plam (view t) (view t .one, view t .two)
+
+-- end of parts of a kind
 
 unfoldable pub expose-body : Callees → ℕ → Context → Term → Term → ℕ → M (Term × ℕ)
 expose-body c d g t ty typed = do
@@ -122,6 +125,14 @@ found ty refs rule = do
   _ ← count-all (of-term ty)
   pure (record { type = ty; refs = refs; rule = rule })
 
+-- two parts that are types, the second under a variable: a pi
+unfoldable pub find-binder : Callees → ℕ → Context → Term → Term → ℕ → M Found
+find-binder c d g a b rule = do
+  (i, x) ← c .universe d g a
+  (j, y) ← c .universe d (Cons a g) b
+  z ← c .max i j
+  found (Universe (larger i j)) (x ∷ y ∷ z ∷ []) rule
+
 unfoldable pub find : Callees → ℕ → Context → Term → M Found
 find c d g (Universe l) = do
   x ← c .ctx d g
@@ -137,11 +148,7 @@ find c d g (Var n) = do
   x ← c .ctx d g
   (ty, y) ← c .lookup g n
   found ty (x ∷ y ∷ []) R.type·v
-find c d g (Pi a b) = do
-  (i, x) ← c .universe d g a
-  (j, y) ← c .universe d (Cons a g) b
-  z ← c .max i j
-  found (Universe (larger i j)) (x ∷ y ∷ z ∷ []) R.type·pi
+find c d g (Pi a b) = find-binder c d g a b R.type·pi
 find c d g (Lam a body) = do
   (_, x) ← c .universe d g a
   (b, y) ← c .infer d (Cons a g) body
