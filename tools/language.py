@@ -48,6 +48,10 @@ TERMS = [
     kind(8, 'path', 'Path', 'A: term under a dimension; b: term; c: term', taken='path-parts'),
     kind(9, 'plam', 'PathLam', 'A: term under a dimension, not shown; b: term under a dimension', taken='plam-parts'),
     kind(10, 'papp', 'PathApp', 'p: term; r: interval'),
+    kind(11, 'sigma', 'Sigma', 'A: term; B: term under a variable', taken='sigma-parts'),
+    kind(12, 'pair', 'Pair', 'A: term, not shown; a: term; b: term', taken='pair-parts'),
+    kind(13, 'fst', 'Fst', 'p: term'),
+    kind(14, 'snd', 'Snd', 'p: term'),
 ]
 
 INTERVALS = [
@@ -186,6 +190,28 @@ RULES = [Rule(number, name, judgment) for number, name, judgment in [
     (92, 'eq.pbeta', 'eq'),
     (93, 'eq.p0', 'eq'),
     (94, 'eq.p1', 'eq'),
+    (95, 'type.sigma', 'has'),
+    (96, 'type.pair', 'has'),
+    (97, 'type.fst', 'has'),
+    (98, 'type.snd', 'has'),
+    (99, 'eq.fst-beta', 'eq'),
+    (100, 'eq.snd-beta', 'eq'),
+    (101, 'shift.sigma', 'shift'),
+    (102, 'shift.pair', 'shift'),
+    (103, 'shift.fst', 'shift'),
+    (104, 'shift.snd', 'shift'),
+    (105, 'subst.sigma', 'subst'),
+    (106, 'subst.pair', 'subst'),
+    (107, 'subst.fst', 'subst'),
+    (108, 'subst.snd', 'subst'),
+    (109, 'dshift.sigma', 'dshift'),
+    (110, 'dshift.pair', 'dshift'),
+    (111, 'dshift.fst', 'dshift'),
+    (112, 'dshift.snd', 'dshift'),
+    (113, 'dsubst.sigma', 'dsubst'),
+    (114, 'dsubst.pair', 'dsubst'),
+    (115, 'dsubst.fst', 'dsubst'),
+    (116, 'dsubst.snd', 'dsubst'),
 ]]
 
 # ---- Calls: the code, the terms that follow the context, the reference function that is entered.
@@ -234,4 +260,6 @@ REFUSALS = [
     Refusal(18, 'rows', 'a new row is needed, and 50,000, or all that the table holds, are used'),
     Refusal(19, 'nesting', 'a function would be entered past the nesting limit'),
     Refusal(20, 'cells', 'a new cell is needed, and none is left, or 4,294,967,295 are used'),
+    Refusal(21, 'no-sigma', 'the subject of a projection has no sigma type after `expose`'),
+    Refusal(22, 'annotation', 'the annotation of a pair is not written as a sigma'),
 ]

@@ -43,3 +43,7 @@ pub const ROWS: u32 = 18;
 pub const NESTING: u32 = 19;
 // A new cell is needed, and none is left, or 4,294,967,295 are used.
 pub const CELLS: u32 = 20;
+// The subject of a projection has no sigma type after `expose`.
+pub const NO_SIGMA: u32 = 21;
+// The annotation of a pair is not written as a sigma.
+pub const ANNOTATION: u32 = 22;

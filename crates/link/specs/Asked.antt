@@ -2,10 +2,10 @@
 use Prim.Native.Nat.{ℕ, _/_, min}
 use mathlib.Core.List.{List, [], _∷_, _++_}
 use lib.ListN.{length, drop}
-use Rattle.producer.specs.Machine.{Machine, machine, new-state, fresh, Result, is, not, W, _>>=_, intern, make-universe, make-var, make-nat, make-zero, make-pi, make-lam, make-app, make-path, make-plam, make-papp, make-i0, make-i1, make-dim, make-neg, make-meet, make-join, make-nil, make-cons}
+use Rattle.producer.specs.Machine.{Machine, machine, new-state, fresh, Result, is, not, W, _>>=_, intern, make-universe, make-var, make-nat, make-zero, make-pi, make-lam, make-app, make-path, make-plam, make-papp, make-sigma, make-pair, make-fst, make-snd, make-i0, make-i1, make-dim, make-neg, make-meet, make-join, make-nil, make-cons}
 use Rattle.producer.specs.Callees.{Callees}
 use Rattle.producer.specs.Calls.{callees}
-use Rattle.walk.specs.Syntax.{Interval, I0, I1, Dim, Neg, Meet, Join, Term, Universe, Var, Nat, Zero, Pi, Lam, App, Path, PathLam, PathApp, Context, Nil, Cons}
+use Rattle.walk.specs.Syntax.{Interval, I0, I1, Dim, Neg, Meet, Join, Term, Universe, Var, Nat, Zero, Pi, Lam, App, Path, PathLam, PathApp, Sigma, Pair, Fst, Snd, Context, Nil, Cons}
 use Rattle.walk.specs.Reader.{Code, c-context, c-universe, c-infer, c-check, c-normalise, c-equal, Call}
 use Rattle.walk.specs.Refusal as Refusal
 use Rattle.walk.specs.Limits.{Sized, fits, scope-over, size-over, index-over, size-call}
@@ -35,6 +35,10 @@ build-term (App a b) = build-term a >>= λ x. build-term b >>= λ y. make-app x 
 build-term (Path a b c) = build-term a >>= λ x. build-term b >>= λ y. build-term c >>= λ z. make-path x y z
 build-term (PathLam a b) = build-term a >>= λ x. build-term b >>= λ y. make-plam x y
 build-term (PathApp a b) = build-term a >>= λ x. build-interval b >>= λ y. make-papp x y
+build-term (Sigma a b) = build-term a >>= λ x. build-term b >>= λ y. make-sigma x y
+build-term (Pair a b c) = build-term a >>= λ x. build-term b >>= λ y. build-term c >>= λ z. make-pair x y z
+build-term (Fst a) = build-term a >>= λ x. make-fst x
+build-term (Snd a) = build-term a >>= λ x. make-snd x
 
 -- end of cells of a term
 

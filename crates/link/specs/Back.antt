@@ -21,7 +21,7 @@ use Rattle.walk.specs.State.{State, Row, Thing, term, interval, context, infere
 use Rattle.walk.specs.Demand.{Row-at, newest, older, Cites, none-cited, _also_, Row-follows, Derivation-order}
 use Rattle.link.specs.Lists.{Nth, here, there, nth-below, nth-lift, Extends, same, more, extends-trans, first-passes, read}
 use Rattle.link.specs.Things.{Shown, shown?, show, shows, yes-true, Cell, Low, cell-nth, Plain}
-use Rattle.link.specs.Tables.{Shape, s-plain, s-universe, s-var, s-nat, s-zero, s-pi, s-lam, s-app, s-path, s-plam, s-papp, s-i0, s-i1, s-dim, s-neg, s-meet, s-join, s-nil, s-cons, Spoken, j-ctx, j-dshiftctx, j-lookup, j-lt, j-le, j-max, j-interval, j-ishift, j-isubst, j-shift, j-subst, j-dshift, j-dsubst, j-has, j-eq, j-lift, j-words}
+use Rattle.link.specs.Tables.{Shape, s-plain, s-universe, s-var, s-nat, s-zero, s-pi, s-lam, s-app, s-path, s-plam, s-papp, s-sigma, s-pair, s-fst, s-snd, s-i0, s-i1, s-dim, s-neg, s-meet, s-join, s-nil, s-cons, Spoken, j-ctx, j-dshiftctx, j-lookup, j-lt, j-le, j-max, j-interval, j-ishift, j-isubst, j-shift, j-subst, j-dshift, j-dsubst, j-has, j-eq, j-lift, j-words}
 use Rattle.link.specs.Store.{refs-of, Block, plain, remembered, Line, line, Cells}
 use Rattle.link.specs.Store.{row-words as row-of}
 use Rattle.link.specs.Holds.{Before, Holds, part-of}
@@ -111,6 +111,10 @@ module _ {xs : List Thing} {ws : List ℕ} (rest : List ℕ) (cs : Cells xs ws) 
       go ih at (s-path x y z) = let p = at _ _ x in let q = at _ _ y in let r = at _ _ z in rw (ih _ _ (omega arith) (p .1), ih _ _ (omega arith) (q .1), ih _ _ (omega arith) (r .1))
       go ih at (s-plam x y) = let q = at _ _ y in rw (ih _ _ (omega arith) (q .1))
       go ih at (s-papp x y) = let p = at _ _ x in let q = at _ _ y in rw (ih _ _ (omega arith) (p .1), lowered (interval-at f (ws ++ rest)) (q .0) (interval-back f _ _ (omega arith) (q .1)))
+      go ih at (s-sigma x y) = let p = at _ _ x in let q = at _ _ y in rw (ih _ _ (omega arith) (p .1), ih _ _ (omega arith) (q .1))
+      go ih at (s-pair x y z) = let q = at _ _ y in let r = at _ _ z in rw (ih _ _ (omega arith) (q .1), ih _ _ (omega arith) (r .1))
+      go ih at (s-fst x) = let p = at _ _ x in rw (ih _ _ (omega arith) (p .1))
+      go ih at (s-snd x) = let p = at _ _ x in rw (ih _ _ (omega arith) (p .1))
       -- end of quotes
 
   context-back : (f n : ℕ) (g : Context) → n < f → Nth n (context g) xs → context-at f (ws ++ rest) n ≡ some (quotes g)
@@ -141,6 +145,10 @@ module _ {xs : List Thing} {ws : List ℕ} (rest : List ℕ) (cs : Cells xs ws) 
       go ih at (s-path x y z) = let p = at _ _ x in let q = at _ _ y in let r = at _ _ z in rw (ih _ _ (omega arith) (p .1), ih _ _ (omega arith) (q .1), ih _ _ (omega arith) (r .1))
       go ih at (s-plam x y) = let p = at _ _ x in let q = at _ _ y in rw (ih _ _ (omega arith) (p .1), ih _ _ (omega arith) (q .1))
       go ih at (s-papp x y) = let p = at _ _ x in let q = at _ _ y in rw (ih _ _ (omega arith) (p .1), lowered (interval-at f (ws ++ rest)) (q .0) (interval-back f _ _ (omega arith) (q .1)))
+      go ih at (s-sigma x y) = let p = at _ _ x in let q = at _ _ y in rw (ih _ _ (omega arith) (p .1), ih _ _ (omega arith) (q .1))
+      go ih at (s-pair x y z) = let p = at _ _ x in let q = at _ _ y in let r = at _ _ z in rw (ih _ _ (omega arith) (p .1), ih _ _ (omega arith) (q .1), ih _ _ (omega arith) (r .1))
+      go ih at (s-fst x) = let p = at _ _ x in rw (ih _ _ (omega arith) (p .1))
+      go ih at (s-snd x) = let p = at _ _ x in rw (ih _ _ (omega arith) (p .1))
       -- end of terms
 
   scope-back : (f n : ℕ) (g : Context) → n < f → Nth n (context g) xs → scope-at f (ws ++ rest) n ≡ some g

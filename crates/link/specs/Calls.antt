@@ -2,12 +2,12 @@
 use Prim.Native.Nat.{ℕ}
 use mathlib.Core.List.{List}
 use Rattle.producer.specs.Callees.{Callees}
-use Rattle.walk.specs.Syntax.{Interval, I0, I1, Dim, Neg, Meet, Join, Term, Universe, Var, Nat, Zero, Pi, Lam, App, Path, PathLam, PathApp, Context, Nil, Cons}
+use Rattle.walk.specs.Syntax.{Interval, I0, I1, Dim, Neg, Meet, Join, Term, Universe, Var, Nat, Zero, Pi, Lam, App, Path, PathLam, PathApp, Sigma, Pair, Fst, Snd, Context, Nil, Cons}
 use Rattle.walk.specs.State.{Thing, term, interval, context, of-interval, of-term, of-context, M, count-all}
 use Rattle.walk.specs.Walk.Reference as D
 use Rattle.link.specs.Lists.{extends-trans}
 use Rattle.link.specs.Things.{Cell, cell-lift}
-use Rattle.link.specs.Tables.{s-universe, s-var, s-nat, s-zero, s-pi, s-lam, s-app, s-path, s-plam, s-papp, s-i0, s-i1, s-dim, s-neg, s-meet, s-join, s-nil, s-cons}
+use Rattle.link.specs.Tables.{s-universe, s-var, s-nat, s-zero, s-pi, s-lam, s-app, s-path, s-plam, s-papp, s-sigma, s-pair, s-fst, s-snd, s-i0, s-i1, s-dim, s-neg, s-meet, s-join, s-nil, s-cons}
 use Rattle.link.specs.Holds.{Before}
 use Rattle.link.specs.Match.{Matches, bind, nothing, counting, split, split-last, starting, Same, Pairs, Returns}
 use Rattle.link.specs.Linked.{Linked, Alike}
@@ -39,6 +39,10 @@ module _ {o : Before} where
   building-term (Path a b c) = split-last _ _ (split _ _ _ (split _ _ _ (bind (building-term a) λ _ _ _ _ h. bind (building-term b) λ _ _ _ e k. bind (building-term c) λ _ _ _ f l. counting nothing (s-path (cell-lift (extends-trans e f) h) (cell-lift f k) l))))
   building-term (PathLam a b) = split-last _ _ (split _ _ _ (bind (building-term a) λ _ _ _ _ h. bind (building-term b) λ _ _ _ e k. counting nothing (s-plam (cell-lift e h) k)))
   building-term (PathApp a b) = split-last _ _ (split _ _ _ (bind (building-term a) λ _ _ _ _ h. bind (building-interval b) λ _ _ _ e k. counting nothing (s-papp (cell-lift e h) k)))
+  building-term (Sigma a b) = split-last _ _ (split _ _ _ (bind (building-term a) λ _ _ _ _ h. bind (building-term b) λ _ _ _ e k. counting nothing (s-sigma (cell-lift e h) k)))
+  building-term (Pair a b c) = split-last _ _ (split _ _ _ (split _ _ _ (bind (building-term a) λ _ _ _ _ h. bind (building-term b) λ _ _ _ e k. bind (building-term c) λ _ _ _ f l. counting nothing (s-pair (cell-lift (extends-trans e f) h) (cell-lift f k) l))))
+  building-term (Fst a) = split-last _ _ (bind (building-term a) λ _ _ _ _ h. counting nothing (s-fst h))
+  building-term (Snd a) = split-last _ _ (bind (building-term a) λ _ _ _ _ h. counting nothing (s-snd h))
 
   -- end of counting a term
 

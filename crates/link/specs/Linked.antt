@@ -13,10 +13,10 @@ use Rattle.producer.specs.declared.intervals.IOp.{IOp}
 use Rattle.producer.specs.declared.intervals.IOp.the-variants.{IShift, ISubst}
 use Rattle.producer.specs.declared.transforms.Op.{Op}
 use Rattle.producer.specs.declared.transforms.Op.the-variants.{Shift, Subst, DShift, DSubst}
-use Rattle.producer.specs.Machine.{Machine, W, Reduction, make-universe, make-var, make-nat, make-zero, make-pi, make-lam, make-app, make-path, make-plam, make-papp, make-i0, make-i1, make-dim, make-neg, make-meet, make-join, make-nil, make-cons}
+use Rattle.producer.specs.Machine.{Machine, W, Reduction, make-universe, make-var, make-nat, make-zero, make-pi, make-lam, make-app, make-path, make-plam, make-papp, make-sigma, make-pair, make-fst, make-snd, make-i0, make-i1, make-dim, make-neg, make-meet, make-join, make-nil, make-cons}
 use Rattle.producer.specs.Machine as C
 use Rattle.producer.specs.Callees.{Callees}
-use Rattle.walk.specs.Syntax.{Interval, I0, I1, Dim, Neg, Meet, Join, Term, Universe, Var, Nat, Zero, Pi, Lam, App, Path, PathLam, PathApp, Context, Cons}
+use Rattle.walk.specs.Syntax.{Interval, I0, I1, Dim, Neg, Meet, Join, Term, Universe, Var, Nat, Zero, Pi, Lam, App, Path, PathLam, PathApp, Sigma, Pair, Fst, Snd, Context, Cons}
 use Rattle.walk.specs.State.{State, Thing, term, interval, context, of-interval, of-term, of-context, M, count-all}
 use Rattle.walk.specs.State as S
 use Rattle.walk.specs.Walk.Reference as D
@@ -25,7 +25,7 @@ use Rattle.order.specs.Numbers.{largest}
 use Rattle.order.specs.Guarded.{beyond, bump}
 use Rattle.link.specs.Lists.{Extends}
 use Rattle.link.specs.Things.{Cell, cell-lift}
-use Rattle.link.specs.Tables.{s-universe, s-var, s-nat, s-zero, s-pi, s-lam, s-app, s-path, s-plam, s-papp, s-i0, s-i1, s-dim, s-neg, s-meet, s-join, s-nil, s-cons}
+use Rattle.link.specs.Tables.{s-universe, s-var, s-nat, s-zero, s-pi, s-lam, s-app, s-path, s-plam, s-papp, s-sigma, s-pair, s-fst, s-snd, s-i0, s-i1, s-dim, s-neg, s-meet, s-join, s-nil, s-cons}
 use Rattle.link.specs.Holds.{Before, Holds}
 use Rattle.link.specs.Match.{Agree, by-guard, Matches, bind, nothing, the-interval, the-term, the-context, _with_, counting, Same, Pairs, Returns, Absorbs, Few}
 
@@ -168,6 +168,18 @@ module _ {o : Before} {xs : List Thing} where
 
   pub making-papp : {a b : ℕ} {a′ : Term} {b′ : Interval} → Cell a (term a′) xs → Cell b (interval b′) xs → Matches o xs (make-papp a b) (count-all (of-term (PathApp a′ b′))) (λ i _. Cell i (term (PathApp a′ b′)))
   making-papp h k = counting (the-term h with the-interval k) (s-papp h k)
+
+  pub making-sigma : {a b : ℕ} {a′ b′ : Term} → Cell a (term a′) xs → Cell b (term b′) xs → Matches o xs (make-sigma a b) (count-all (of-term (Sigma a′ b′))) (λ i _. Cell i (term (Sigma a′ b′)))
+  making-sigma h k = counting (the-term h with the-term k) (s-sigma h k)
+
+  pub making-pair : {a b c : ℕ} {a′ b′ c′ : Term} → Cell a (term a′) xs → Cell b (term b′) xs → Cell c (term c′) xs → Matches o xs (make-pair a b c) (count-all (of-term (Pair a′ b′ c′))) (λ i _. Cell i (term (Pair a′ b′ c′)))
+  making-pair h k l = counting (the-term h with the-term k with the-term l) (s-pair h k l)
+
+  pub making-fst : {a : ℕ} {a′ : Term} → Cell a (term a′) xs → Matches o xs (make-fst a) (count-all (of-term (Fst a′))) (λ i _. Cell i (term (Fst a′)))
+  making-fst h = counting (the-term h) (s-fst h)
+
+  pub making-snd : {a : ℕ} {a′ : Term} → Cell a (term a′) xs → Matches o xs (make-snd a) (count-all (of-term (Snd a′))) (λ i _. Cell i (term (Snd a′)))
+  making-snd h = counting (the-term h) (s-snd h)
 
   pub making-i0 : Matches o xs make-i0 (count-all (of-interval I0)) (λ i _. Cell i (interval I0))
   making-i0 = counting nothing s-i0

@@ -11,12 +11,12 @@ use Rattle.ast.specs.declared.cells.Shape.{Shape as Form}
 use Rattle.ast.specs.declared.cells.Shape.the-variants as form
 use Rattle.producer.specs.Machine.{W, open-cell}
 use Rattle.producer.specs.Machine as C
-use Rattle.walk.specs.Syntax.{Interval, I0, I1, Dim, Neg, Meet, Join, Term, Universe, Var, Nat, Zero, Pi, Lam, App, Path, PathLam, PathApp, Context, Nil, Cons, Quote, quote, quote?}
+use Rattle.walk.specs.Syntax.{Interval, I0, I1, Dim, Neg, Meet, Join, Term, Universe, Var, Nat, Zero, Pi, Lam, App, Path, PathLam, PathApp, Sigma, Pair, Fst, Snd, Context, Nil, Cons, Quote, quote, quote?}
 use Rattle.walk.specs.State.{Thing, term, interval, context, M, if_then_else_, from_get_or_}
-use Rattle.walk.specs.Walk.Typing.{level, pi-parts, lam-parts, path-parts, plam-parts}
+use Rattle.walk.specs.Walk.Typing.{level, pi-parts, lam-parts, path-parts, plam-parts, sigma-parts, pair-parts}
 use Rattle.link.specs.Lists.{yes?}
 use Rattle.link.specs.Things.{a-quote, show, Cell, Low, low-same, low-number}
-use Rattle.link.specs.Tables.{Shape, s-universe, s-var, s-nat, s-zero, s-pi, s-lam, s-app, s-path, s-plam, s-papp, s-i0, s-i1, s-dim, s-neg, s-meet, s-join, s-nil, s-cons}
+use Rattle.link.specs.Tables.{Shape, s-universe, s-var, s-nat, s-zero, s-pi, s-lam, s-app, s-path, s-plam, s-papp, s-sigma, s-pair, s-fst, s-snd, s-i0, s-i1, s-dim, s-neg, s-meet, s-join, s-nil, s-cons}
 use Rattle.link.specs.Store.{cell-by, quote-is, decides, eqb-self}
 use Rattle.link.specs.Holds.{Before, read-cell}
 use Rattle.link.specs.Match.{Matches, branch, opening}
@@ -60,8 +60,12 @@ module _ {A B : Type 0} {o : Before} {xs : List Thing} {Q : B → A → List Thi
       → ((q a b c : ℕ) (a′ b′ c′ : Term) → Node i q (term (Path a′ b′ c′)) xs → Cell a (term a′) xs → Cell b (term b′) xs → Cell c (term c′) xs → Matches o xs (f (cell-by 8 a b c q)) (g (Path a′ b′ c′)) Q)
       → ((q a b : ℕ) (a′ b′ : Term) → Node i q (term (PathLam a′ b′)) xs → Cell a (term a′) xs → Cell b (term b′) xs → Matches o xs (f (cell-by 9 a b 0 q)) (g (PathLam a′ b′)) Q)
       → ((q a b : ℕ) (a′ : Term) (b′ : Interval) → Node i q (term (PathApp a′ b′)) xs → Cell a (term a′) xs → Cell b (interval b′) xs → Matches o xs (f (cell-by 10 a b 0 q)) (g (PathApp a′ b′)) Q)
+      → ((q a b : ℕ) (a′ b′ : Term) → Node i q (term (Sigma a′ b′)) xs → Cell a (term a′) xs → Cell b (term b′) xs → Matches o xs (f (cell-by 11 a b 0 q)) (g (Sigma a′ b′)) Q)
+      → ((q a b c : ℕ) (a′ b′ c′ : Term) → Node i q (term (Pair a′ b′ c′)) xs → Cell a (term a′) xs → Cell b (term b′) xs → Cell c (term c′) xs → Matches o xs (f (cell-by 12 a b c q)) (g (Pair a′ b′ c′)) Q)
+      → ((q a : ℕ) (a′ : Term) → Node i q (term (Fst a′)) xs → Cell a (term a′) xs → Matches o xs (f (cell-by 13 a 0 0 q)) (g (Fst a′)) Q)
+      → ((q a : ℕ) (a′ : Term) → Node i q (term (Snd a′)) xs → Cell a (term a′) xs → Matches o xs (f (cell-by 14 a 0 0 q)) (g (Snd a′)) Q)
       → Matches o xs (open-cell i f) (g t) Q
-  opening-term {i = i} g h on-u on-v on-nat on-zero on-pi on-lam on-app on-path on-plam on-papp = opening tt h λ v s low. go (v .quote) s (record { cell = h; low = low })
+  opening-term {i = i} g h on-u on-v on-nat on-zero on-pi on-lam on-app on-path on-plam on-papp on-sigma on-pair on-fst on-snd = opening tt h λ v s low. go (v .quote) s (record { cell = h; low = low })
     where
       go : {k a b c : ℕ} {t : Term} (q : ℕ) → Shape xs k a b c (term t) → Node i q (term t) xs → Matches o xs (f (cell-by k a b c q)) (g t) Q
       go q s-universe n = on-u q _ n
@@ -74,6 +78,10 @@ module _ {A B : Type 0} {o : Before} {xs : List Thing} {Q : B → A → List Thi
       go q (s-path x y z) n = on-path q _ _ _ _ _ _ n x y z
       go q (s-plam x y) n = on-plam q _ _ _ _ n x y
       go q (s-papp x y) n = on-papp q _ _ _ _ n x y
+      go q (s-sigma x y) n = on-sigma q _ _ _ _ n x y
+      go q (s-pair x y z) n = on-pair q _ _ _ _ _ _ n x y z
+      go q (s-fst x) n = on-fst q _ _ n x
+      go q (s-snd x) n = on-snd q _ _ n x
 
   -- end of opening a term
 
@@ -97,6 +105,8 @@ record Else (t : Term) : Type 0 where
   no-lam : lam-parts t ≡ none
   no-path : path-parts t ≡ none
   no-plam : plam-parts t ≡ none
+  no-sigma : sigma-parts t ≡ none
+  no-pair : pair-parts t ≡ none
   -- end of no shape
 
 data Parts (xs : List Thing) : Form → Term → Type 0 where
@@ -106,21 +116,27 @@ data Parts (xs : List Thing) : Form → Term → Type 0 where
   p-lam : {a b : ℕ} {a′ b′ : Term} → Cell a (term a′) xs → Cell b (term b′) xs → Parts xs (form.Lam a b) (Lam a′ b′)
   p-path : {a b c : ℕ} {a′ b′ c′ : Term} → Cell a (term a′) xs → Cell b (term b′) xs → Cell c (term c′) xs → Parts xs (form.Path a b c) (Path a′ b′ c′)
   p-plam : {a b : ℕ} {a′ b′ : Term} → Cell a (term a′) xs → Cell b (term b′) xs → Parts xs (form.Plam a b) (PathLam a′ b′)
+  p-sigma : {a b : ℕ} {a′ b′ : Term} → Cell a (term a′) xs → Cell b (term b′) xs → Parts xs (form.Sigma a b) (Sigma a′ b′)
+  p-pair : {a b c : ℕ} {a′ b′ c′ : Term} → Cell a (term a′) xs → Cell b (term b′) xs → Cell c (term c′) xs → Parts xs (form.Pair a b c) (Pair a′ b′ c′)
   -- end of shapes
   p-else : {t : Term} → Else t → Parts xs form.Other t
 
 parted : {xs : List Thing} {k a b c : ℕ} {t : Term} (q : ℕ) → Shape xs k a b c (term t) → Parts xs (shape-by (cell-by k a b c q)) t
 -- written by tools/written.py: which shape
 parted q s-universe = p-universe
-parted q s-var = p-else (record { no-level = refl; no-pi = refl; no-lam = refl; no-path = refl; no-plam = refl })
-parted q s-nat = p-else (record { no-level = refl; no-pi = refl; no-lam = refl; no-path = refl; no-plam = refl })
-parted q s-zero = p-else (record { no-level = refl; no-pi = refl; no-lam = refl; no-path = refl; no-plam = refl })
+parted q s-var = p-else (record { no-level = refl; no-pi = refl; no-lam = refl; no-path = refl; no-plam = refl; no-sigma = refl; no-pair = refl })
+parted q s-nat = p-else (record { no-level = refl; no-pi = refl; no-lam = refl; no-path = refl; no-plam = refl; no-sigma = refl; no-pair = refl })
+parted q s-zero = p-else (record { no-level = refl; no-pi = refl; no-lam = refl; no-path = refl; no-plam = refl; no-sigma = refl; no-pair = refl })
 parted q (s-pi x y) = p-pi x y
 parted q (s-lam x y) = p-lam x y
-parted q (s-app x y) = p-else (record { no-level = refl; no-pi = refl; no-lam = refl; no-path = refl; no-plam = refl })
+parted q (s-app x y) = p-else (record { no-level = refl; no-pi = refl; no-lam = refl; no-path = refl; no-plam = refl; no-sigma = refl; no-pair = refl })
 parted q (s-path x y z) = p-path x y z
 parted q (s-plam x y) = p-plam x y
-parted q (s-papp x y) = p-else (record { no-level = refl; no-pi = refl; no-lam = refl; no-path = refl; no-plam = refl })
+parted q (s-papp x y) = p-else (record { no-level = refl; no-pi = refl; no-lam = refl; no-path = refl; no-plam = refl; no-sigma = refl; no-pair = refl })
+parted q (s-sigma x y) = p-sigma x y
+parted q (s-pair x y z) = p-pair x y z
+parted q (s-fst x) = p-else (record { no-level = refl; no-pi = refl; no-lam = refl; no-path = refl; no-plam = refl; no-sigma = refl; no-pair = refl })
+parted q (s-snd x) = p-else (record { no-level = refl; no-pi = refl; no-lam = refl; no-path = refl; no-plam = refl; no-sigma = refl; no-pair = refl })
 
 -- end of which shape
 
@@ -140,6 +156,8 @@ module _ {A B : Type 0} {o : Before} {xs : List Thing} {Q : B → A → List Thi
       go q (p-lam a b) = m
       go q (p-path a b c) = m
       go q (p-plam a b) = m
+      go q (p-sigma a b) = m
+      go q (p-pair a b c) = m
       go q (p-else e) = rw (e .no-level) m
 
   pub at-pi : {i : ℕ} {t : Term} {f : ℕ → ℕ → W B} {z : W B} (g : Term × Term → M A) (y : M A) → Cell i (term t) xs → ((a b : ℕ) (a′ b′ : Term) → t ≡ Pi a′ b′ → Cell a (term a′) xs → Cell b (term b′) xs → Matches o xs (f a b) (g (a′, b′)) Q) → Matches o xs z y Q → Matches o xs (C.at-pi i f z) (from pi-parts t get g or y) Q
@@ -152,6 +170,8 @@ module _ {A B : Type 0} {o : Before} {xs : List Thing} {Q : B → A → List Thi
       go q (p-lam a b) = m
       go q (p-path a b c) = m
       go q (p-plam a b) = m
+      go q (p-sigma a b) = m
+      go q (p-pair a b c) = m
       go q (p-else e) = rw (e .no-pi) m
 
   pub at-lam : {i : ℕ} {t : Term} {f : ℕ → ℕ → W B} {z : W B} (g : Term × Term → M A) (y : M A) → Cell i (term t) xs → ((a b : ℕ) (a′ b′ : Term) → t ≡ Lam a′ b′ → Cell a (term a′) xs → Cell b (term b′) xs → Matches o xs (f a b) (g (a′, b′)) Q) → Matches o xs z y Q → Matches o xs (C.at-lam i f z) (from lam-parts t get g or y) Q
@@ -164,6 +184,8 @@ module _ {A B : Type 0} {o : Before} {xs : List Thing} {Q : B → A → List Thi
       go q (p-lam a b) = k _ _ _ _ q a b
       go q (p-path a b c) = m
       go q (p-plam a b) = m
+      go q (p-sigma a b) = m
+      go q (p-pair a b c) = m
       go q (p-else e) = rw (e .no-lam) m
 
   pub at-path : {i : ℕ} {t : Term} {f : ℕ → ℕ → ℕ → W B} {z : W B} (g : Term × Term × Term → M A) (y : M A) → Cell i (term t) xs → ((a b c : ℕ) (a′ b′ c′ : Term) → t ≡ Path a′ b′ c′ → Cell a (term a′) xs → Cell b (term b′) xs → Cell c (term c′) xs → Matches o xs (f a b c) (g (a′, b′, c′)) Q) → Matches o xs z y Q → Matches o xs (C.at-path i f z) (from path-parts t get g or y) Q
@@ -176,6 +198,8 @@ module _ {A B : Type 0} {o : Before} {xs : List Thing} {Q : B → A → List Thi
       go q (p-lam a b) = m
       go q (p-path a b c) = k _ _ _ _ _ _ q a b c
       go q (p-plam a b) = m
+      go q (p-sigma a b) = m
+      go q (p-pair a b c) = m
       go q (p-else e) = rw (e .no-path) m
 
   pub at-plam : {i : ℕ} {t : Term} {f : ℕ → ℕ → W B} {z : W B} (g : Term × Term → M A) (y : M A) → Cell i (term t) xs → ((a b : ℕ) (a′ b′ : Term) → t ≡ PathLam a′ b′ → Cell a (term a′) xs → Cell b (term b′) xs → Matches o xs (f a b) (g (a′, b′)) Q) → Matches o xs z y Q → Matches o xs (C.at-plam i f z) (from plam-parts t get g or y) Q
@@ -188,7 +212,37 @@ module _ {A B : Type 0} {o : Before} {xs : List Thing} {Q : B → A → List Thi
       go q (p-lam a b) = m
       go q (p-path a b c) = m
       go q (p-plam a b) = k _ _ _ _ q a b
+      go q (p-sigma a b) = m
+      go q (p-pair a b c) = m
       go q (p-else e) = rw (e .no-plam) m
+
+  pub at-sigma : {i : ℕ} {t : Term} {f : ℕ → ℕ → W B} {z : W B} (g : Term × Term → M A) (y : M A) → Cell i (term t) xs → ((a b : ℕ) (a′ b′ : Term) → t ≡ Sigma a′ b′ → Cell a (term a′) xs → Cell b (term b′) xs → Matches o xs (f a b) (g (a′, b′)) Q) → Matches o xs z y Q → Matches o xs (C.at-sigma i f z) (from sigma-parts t get g or y) Q
+  unfolding C.at-sigma C.on-sigma from_get_or_
+  at-sigma {t = t} {f = f} {z = z} g y h k m = taken (λ p. C.on-sigma p f z) h λ _ s. go refl s
+    where
+      go : {p : Form} {u : Term} → t ≡ u → Parts xs p u → Matches o xs (C.on-sigma p f z) (from sigma-parts u get g or y) Q
+      go q p-universe = m
+      go q (p-pi a b) = m
+      go q (p-lam a b) = m
+      go q (p-path a b c) = m
+      go q (p-plam a b) = m
+      go q (p-sigma a b) = k _ _ _ _ q a b
+      go q (p-pair a b c) = m
+      go q (p-else e) = rw (e .no-sigma) m
+
+  pub at-pair : {i : ℕ} {t : Term} {f : ℕ → ℕ → ℕ → W B} {z : W B} (g : Term × Term × Term → M A) (y : M A) → Cell i (term t) xs → ((a b c : ℕ) (a′ b′ c′ : Term) → t ≡ Pair a′ b′ c′ → Cell a (term a′) xs → Cell b (term b′) xs → Cell c (term c′) xs → Matches o xs (f a b c) (g (a′, b′, c′)) Q) → Matches o xs z y Q → Matches o xs (C.at-pair i f z) (from pair-parts t get g or y) Q
+  unfolding C.at-pair C.on-pair from_get_or_
+  at-pair {t = t} {f = f} {z = z} g y h k m = taken (λ p. C.on-pair p f z) h λ _ s. go refl s
+    where
+      go : {p : Form} {u : Term} → t ≡ u → Parts xs p u → Matches o xs (C.on-pair p f z) (from pair-parts u get g or y) Q
+      go q p-universe = m
+      go q (p-pi a b) = m
+      go q (p-lam a b) = m
+      go q (p-path a b c) = m
+      go q (p-plam a b) = m
+      go q (p-sigma a b) = m
+      go q (p-pair a b c) = k _ _ _ _ _ _ q a b c
+      go q (p-else e) = rw (e .no-pair) m
 
 -- end of taken apart
 

@@ -17,12 +17,12 @@ use Rattle.ast.specs.declared.cells.Found.{Found}
 use Rattle.ast.specs.declared.cells.Found.the-variants.{At, Nothing}
 use Rattle.producer.specs.declared.rows.Refs.{Refs}
 use Rattle.producer.specs.Machine.{same-row}
-use Rattle.walk.specs.Syntax.{Interval, I0, I1, Dim, Neg, Meet, Join, Term, Universe, Var, Nat, Zero, Pi, Lam, App, Path, PathLam, PathApp, Context, Nil, Cons}
+use Rattle.walk.specs.Syntax.{Interval, I0, I1, Dim, Neg, Meet, Join, Term, Universe, Var, Nat, Zero, Pi, Lam, App, Path, PathLam, PathApp, Sigma, Pair, Fst, Snd, Context, Nil, Cons}
 use Rattle.walk.specs.Judgment.{Judgment, judgment?}
 use Rattle.walk.specs.State.{Row, Thing, term, interval, context, inference, Key, key, Memory, thing?, row-of, among, recall, of-interval, of-term, of-context}
 use Rattle.link.specs.Lists.{yes?, first, Nth, here, there, nth-below, Extends, same, more, extends-trans, Blocks, no-block, block, blocks-length, Read, read, written}
 use Rattle.link.specs.Things.{Shown, a-memory, shown?, show, Cell, Low, is-thing, shows, cell-lift, low-lift, cell-nth, cell-same, cell-number, Plain, Seen, Held, Known, none-left, known, known-append, known-head, known-tail}
-use Rattle.link.specs.Tables.{Shape, s-universe, s-var, s-nat, s-zero, s-pi, s-lam, s-app, s-path, s-plam, s-papp, s-i0, s-i1, s-dim, s-neg, s-meet, s-join, s-nil, s-cons, s-lift, s-same, s-words, s-plain, Look, l-universe, l-var, l-nat, l-zero, l-pi, l-lam, l-app, l-path, l-plam, l-papp, l-i0, l-i1, l-dim, l-neg, l-meet, l-join, l-nil, l-cons, l-lift, l-same, l-words, l-plain, Spoken, j-lift, j-same, j-words, parts, shape-known}
+use Rattle.link.specs.Tables.{Shape, s-universe, s-var, s-nat, s-zero, s-pi, s-lam, s-app, s-path, s-plam, s-papp, s-sigma, s-pair, s-fst, s-snd, s-i0, s-i1, s-dim, s-neg, s-meet, s-join, s-nil, s-cons, s-lift, s-same, s-words, s-plain, Look, l-universe, l-var, l-nat, l-zero, l-pi, l-lam, l-app, l-path, l-plam, l-papp, l-sigma, l-pair, l-fst, l-snd, l-i0, l-i1, l-dim, l-neg, l-meet, l-join, l-nil, l-cons, l-lift, l-same, l-words, l-plain, Spoken, j-lift, j-same, j-words, parts, shape-known}
 
 -- the cited rows as a row has them: how many, and ten places
 abbrev pub refs-of : List ℕ → Refs
@@ -233,6 +233,10 @@ module _ {xs : List Thing} {ws : List ℕ} (rest : List ℕ) (cs : Cells xs ws) 
   looks (s-path h i j) = l-path (low-of tt h) (low-of tt i) (low-of tt j)
   looks (s-plam h i) = l-plam (low-of tt i)
   looks (s-papp h i) = l-papp (low-of tt h) (low-of tt i)
+  looks (s-sigma h i) = l-sigma (low-of tt h) (low-of tt i)
+  looks (s-pair h i j) = l-pair (low-of tt i) (low-of tt j)
+  looks (s-fst h) = l-fst (low-of tt h)
+  looks (s-snd h) = l-snd (low-of tt h)
   looks s-i0 = l-i0
   looks s-i1 = l-i1
   looks s-dim = l-dim
@@ -390,6 +394,10 @@ module _ {xs : List Thing} {ws : List ℕ} (cs : Cells xs ws) where
   term-known (Path a b c) h = let p = parts-known tt h in known-append (known-append (known-append (term-known a (known-head p)) (term-known b (known-head (known-tail p)))) (term-known c (known-head (known-tail (known-tail p))))) (one h)
   term-known (PathLam a b) h = let p = parts-known tt h in known-append (known-append (term-known a (known-head p)) (term-known b (known-head (known-tail p)))) (one h)
   term-known (PathApp a b) h = let p = parts-known tt h in known-append (known-append (term-known a (known-head p)) (interval-known b (known-head (known-tail p)))) (one h)
+  term-known (Sigma a b) h = let p = parts-known tt h in known-append (known-append (term-known a (known-head p)) (term-known b (known-head (known-tail p)))) (one h)
+  term-known (Pair a b c) h = let p = parts-known tt h in known-append (known-append (known-append (term-known a (known-head p)) (term-known b (known-head (known-tail p)))) (term-known c (known-head (known-tail (known-tail p))))) (one h)
+  term-known (Fst a) h = let p = parts-known tt h in known-append (term-known a (known-head p)) (one h)
+  term-known (Snd a) h = let p = parts-known tt h in known-append (term-known a (known-head p)) (one h)
 
   -- end of parts of a term
 

@@ -7,10 +7,10 @@ use mathlib.Core.Option.{Option, none, some}
 use mathlib.Core.Bool.{true, false}
 use lib.ListN.{length, getD, take, replicate}
 use lib.Dec.{ltb}
-use Rattle.walk.specs.Syntax.{Interval, I0, I1, Dim, Neg, Meet, Join, Term, Universe, Var, Nat, Zero, Pi, Lam, App, Path, PathLam, PathApp, Context, Nil, Cons, Quote, u, v, nat, zero, pi, lam, app, path, plam, papp, Quotes, nil, cons, quote}
+use Rattle.walk.specs.Syntax.{Interval, I0, I1, Dim, Neg, Meet, Join, Term, Universe, Var, Nat, Zero, Pi, Lam, App, Path, PathLam, PathApp, Sigma, Pair, Fst, Snd, Context, Nil, Cons, Quote, u, v, nat, zero, pi, lam, app, path, plam, papp, sigma, pair, fst, snd, Quotes, nil, cons, quote}
 use Rattle.walk.specs.Judgment.{Judgment, Argument, number, of-interval, of-quote, of-context, arguments, ctx, dshiftctx, lookup, lt, le, max, interval, ishift, isubst, shift, subst, dshift, dsubst, has, eq}
 use Rattle.walk.specs.Rule.{kind-of}
-use Rattle.walk.specs.Reader.{Kind, k-u, k-v, k-nat, k-zero, k-pi, k-lam, k-app, k-path, k-plam, k-papp, IKind, k-0, k-1, k-dim, k-neg, k-meet, k-join, kinds, ikinds, Call}
+use Rattle.walk.specs.Reader.{Kind, k-u, k-v, k-nat, k-zero, k-pi, k-lam, k-app, k-path, k-plam, k-papp, k-sigma, k-pair, k-fst, k-snd, IKind, k-0, k-1, k-dim, k-neg, k-meet, k-join, kinds, ikinds, Call}
 use Rattle.walk.specs.State.{State, Row, Thing, term, inference, key}
 use Rattle.walk.specs.State as S
 use Rattle.walk.specs.Run.{Result, no-result, a-level, a-term, Answer}
@@ -54,6 +54,10 @@ quote-by at iat k-app a b c = at a >>= λ x. at b >>= λ y. some (app x y)
 quote-by at iat k-path a b c = at a >>= λ x. at b >>= λ y. at c >>= λ z. some (path x y z)
 quote-by at iat k-plam a b c = at b >>= λ y. some (plam y)
 quote-by at iat k-papp a b c = at a >>= λ x. iat b >>= λ y. some (papp x y)
+quote-by at iat k-sigma a b c = at a >>= λ x. at b >>= λ y. some (sigma x y)
+quote-by at iat k-pair a b c = at b >>= λ y. at c >>= λ z. some (pair y z)
+quote-by at iat k-fst a b c = at a >>= λ x. some (fst x)
+quote-by at iat k-snd a b c = at a >>= λ x. some (snd x)
 
 -- end of a quote
 
@@ -243,6 +247,10 @@ term-by at iat k-app a b c = at a >>= λ x. at b >>= λ y. some (App x y)
 term-by at iat k-path a b c = at a >>= λ x. at b >>= λ y. at c >>= λ z. some (Path x y z)
 term-by at iat k-plam a b c = at a >>= λ x. at b >>= λ y. some (PathLam x y)
 term-by at iat k-papp a b c = at a >>= λ x. iat b >>= λ y. some (PathApp x y)
+term-by at iat k-sigma a b c = at a >>= λ x. at b >>= λ y. some (Sigma x y)
+term-by at iat k-pair a b c = at a >>= λ x. at b >>= λ y. at c >>= λ z. some (Pair x y z)
+term-by at iat k-fst a b c = at a >>= λ x. some (Fst x)
+term-by at iat k-snd a b c = at a >>= λ x. some (Snd x)
 
 -- end of a term
 

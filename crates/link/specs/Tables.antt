@@ -5,7 +5,7 @@ use mathlib.Core.Path.{_≡_, refl}
 use mathlib.Core.List.{List, [], _∷_}
 use mathlib.Core.Bool.{false}
 use lib.Dec.{eqb}
-use Rattle.walk.specs.Syntax.{Interval, I0, I1, Dim, Neg, Meet, Join, Term, Universe, Var, Nat, Zero, Pi, Lam, App, Path, PathLam, PathApp, Context, Nil, Cons, Quote, u, v, nat, zero, pi, lam, app, path, plam, papp, Quotes, nil, cons}
+use Rattle.walk.specs.Syntax.{Interval, I0, I1, Dim, Neg, Meet, Join, Term, Universe, Var, Nat, Zero, Pi, Lam, App, Path, PathLam, PathApp, Sigma, Pair, Fst, Snd, Context, Nil, Cons, Quote, u, v, nat, zero, pi, lam, app, path, plam, papp, sigma, pair, fst, snd, Quotes, nil, cons}
 use Rattle.walk.specs.Judgment.{Judgment}
 use Rattle.walk.specs.Judgment as J
 use Rattle.walk.specs.State.{Thing, term, interval, context, inference}
@@ -24,6 +24,10 @@ pub data Shape (xs : List Thing) : (kind a b c : ℕ) → Thing → Type 0 where
   s-path : {a : ℕ} {a′ : Term} {b : ℕ} {b′ : Term} {c : ℕ} {c′ : Term} → Cell a (term a′) xs → Cell b (term b′) xs → Cell c (term c′) xs → Shape xs 8 a b c (term (Path a′ b′ c′))
   s-plam : {a : ℕ} {a′ : Term} {b : ℕ} {b′ : Term} → Cell a (term a′) xs → Cell b (term b′) xs → Shape xs 9 a b 0 (term (PathLam a′ b′))
   s-papp : {a : ℕ} {a′ : Term} {b : ℕ} {b′ : Interval} → Cell a (term a′) xs → Cell b (interval b′) xs → Shape xs 10 a b 0 (term (PathApp a′ b′))
+  s-sigma : {a : ℕ} {a′ : Term} {b : ℕ} {b′ : Term} → Cell a (term a′) xs → Cell b (term b′) xs → Shape xs 11 a b 0 (term (Sigma a′ b′))
+  s-pair : {a : ℕ} {a′ : Term} {b : ℕ} {b′ : Term} {c : ℕ} {c′ : Term} → Cell a (term a′) xs → Cell b (term b′) xs → Cell c (term c′) xs → Shape xs 12 a b c (term (Pair a′ b′ c′))
+  s-fst : {a : ℕ} {a′ : Term} → Cell a (term a′) xs → Shape xs 13 a 0 0 (term (Fst a′))
+  s-snd : {a : ℕ} {a′ : Term} → Cell a (term a′) xs → Shape xs 14 a 0 0 (term (Snd a′))
   s-i0 : Shape xs 16 0 0 0 (interval I0)
   s-i1 : Shape xs 17 0 0 0 (interval I1)
   s-dim : {a : ℕ} → Shape xs 18 a 0 0 (interval (Dim a))
@@ -44,6 +48,10 @@ s-lift e (s-app h0 h1) = s-app (cell-lift e h0) (cell-lift e h1)
 s-lift e (s-path h0 h1 h2) = s-path (cell-lift e h0) (cell-lift e h1) (cell-lift e h2)
 s-lift e (s-plam h0 h1) = s-plam (cell-lift e h0) (cell-lift e h1)
 s-lift e (s-papp h0 h1) = s-papp (cell-lift e h0) (cell-lift e h1)
+s-lift e (s-sigma h0 h1) = s-sigma (cell-lift e h0) (cell-lift e h1)
+s-lift e (s-pair h0 h1 h2) = s-pair (cell-lift e h0) (cell-lift e h1) (cell-lift e h2)
+s-lift e (s-fst h0) = s-fst (cell-lift e h0)
+s-lift e (s-snd h0) = s-snd (cell-lift e h0)
 s-lift e s-i0 = s-i0
 s-lift e s-i1 = s-i1
 s-lift e s-dim = s-dim
@@ -65,6 +73,10 @@ s-same (s-app h0 h1) (s-app k0 k1) = let e0 = cell-same h0 k0 in let e1 = cell-s
 s-same (s-path h0 h1 h2) (s-path k0 k1 k2) = let e0 = cell-same h0 k0 in let e1 = cell-same h1 k1 in let e2 = cell-same h2 k2 in cc
 s-same (s-plam h0 h1) (s-plam k0 k1) = let e0 = cell-same h0 k0 in let e1 = cell-same h1 k1 in cc
 s-same (s-papp h0 h1) (s-papp k0 k1) = let e0 = cell-same h0 k0 in let e1 = cell-same h1 k1 in cc
+s-same (s-sigma h0 h1) (s-sigma k0 k1) = let e0 = cell-same h0 k0 in let e1 = cell-same h1 k1 in cc
+s-same (s-pair h0 h1 h2) (s-pair k0 k1 k2) = let e0 = cell-same h0 k0 in let e1 = cell-same h1 k1 in let e2 = cell-same h2 k2 in cc
+s-same (s-fst h0) (s-fst k0) = let e0 = cell-same h0 k0 in cc
+s-same (s-snd h0) (s-snd k0) = let e0 = cell-same h0 k0 in cc
 s-same s-i0 s-i0 = refl
 s-same s-i1 s-i1 = refl
 s-same s-dim s-dim = refl
@@ -85,6 +97,10 @@ s-words (s-app h0 h1) (s-app k0 k1) = let e0 = cell-number h0 k0 in let e1 = cel
 s-words (s-path h0 h1 h2) (s-path k0 k1 k2) = let e0 = cell-number h0 k0 in let e1 = cell-number h1 k1 in let e2 = cell-number h2 k2 in cc
 s-words (s-plam h0 h1) (s-plam k0 k1) = let e0 = cell-number h0 k0 in let e1 = cell-number h1 k1 in cc
 s-words (s-papp h0 h1) (s-papp k0 k1) = let e0 = cell-number h0 k0 in let e1 = cell-number h1 k1 in cc
+s-words (s-sigma h0 h1) (s-sigma k0 k1) = let e0 = cell-number h0 k0 in let e1 = cell-number h1 k1 in cc
+s-words (s-pair h0 h1 h2) (s-pair k0 k1 k2) = let e0 = cell-number h0 k0 in let e1 = cell-number h1 k1 in let e2 = cell-number h2 k2 in cc
+s-words (s-fst h0) (s-fst k0) = let e0 = cell-number h0 k0 in cc
+s-words (s-snd h0) (s-snd k0) = let e0 = cell-number h0 k0 in cc
 s-words s-i0 s-i0 = refl
 s-words s-i1 s-i1 = refl
 s-words s-dim s-dim = refl
@@ -106,6 +122,10 @@ pub data Look (xs : List Thing) : (kind a b c : ℕ) → Shown → Type 0 where
   l-path : {a : ℕ} {a′ : Quote} {b : ℕ} {b′ : Quote} {c : ℕ} {c′ : Quote} → Low a (a-quote a′) xs → Low b (a-quote b′) xs → Low c (a-quote c′) xs → Look xs 8 a b c (a-quote (path a′ b′ c′))
   l-plam : {b : ℕ} {b′ : Quote} → Low b (a-quote b′) xs → Look xs 9 0 b 0 (a-quote (plam b′))
   l-papp : {a : ℕ} {a′ : Quote} {b : ℕ} {b′ : Interval} → Low a (a-quote a′) xs → Low b (an-interval b′) xs → Look xs 10 a b 0 (a-quote (papp a′ b′))
+  l-sigma : {a : ℕ} {a′ : Quote} {b : ℕ} {b′ : Quote} → Low a (a-quote a′) xs → Low b (a-quote b′) xs → Look xs 11 a b 0 (a-quote (sigma a′ b′))
+  l-pair : {b : ℕ} {b′ : Quote} {c : ℕ} {c′ : Quote} → Low b (a-quote b′) xs → Low c (a-quote c′) xs → Look xs 12 0 b c (a-quote (pair b′ c′))
+  l-fst : {a : ℕ} {a′ : Quote} → Low a (a-quote a′) xs → Look xs 13 a 0 0 (a-quote (fst a′))
+  l-snd : {a : ℕ} {a′ : Quote} → Low a (a-quote a′) xs → Look xs 14 a 0 0 (a-quote (snd a′))
   l-i0 : Look xs 16 0 0 0 (an-interval I0)
   l-i1 : Look xs 17 0 0 0 (an-interval I1)
   l-dim : {a : ℕ} → Look xs 18 a 0 0 (an-interval (Dim a))
@@ -126,6 +146,10 @@ l-lift e (l-app h0 h1) = l-app (low-lift e h0) (low-lift e h1)
 l-lift e (l-path h0 h1 h2) = l-path (low-lift e h0) (low-lift e h1) (low-lift e h2)
 l-lift e (l-plam h0) = l-plam (low-lift e h0)
 l-lift e (l-papp h0 h1) = l-papp (low-lift e h0) (low-lift e h1)
+l-lift e (l-sigma h0 h1) = l-sigma (low-lift e h0) (low-lift e h1)
+l-lift e (l-pair h0 h1) = l-pair (low-lift e h0) (low-lift e h1)
+l-lift e (l-fst h0) = l-fst (low-lift e h0)
+l-lift e (l-snd h0) = l-snd (low-lift e h0)
 l-lift e l-i0 = l-i0
 l-lift e l-i1 = l-i1
 l-lift e l-dim = l-dim
@@ -147,6 +171,10 @@ l-same (l-app h0 h1) (l-app k0 k1) = let e0 = low-same h0 k0 in let e1 = low-sam
 l-same (l-path h0 h1 h2) (l-path k0 k1 k2) = let e0 = low-same h0 k0 in let e1 = low-same h1 k1 in let e2 = low-same h2 k2 in cc
 l-same (l-plam h0) (l-plam k0) = let e0 = low-same h0 k0 in cc
 l-same (l-papp h0 h1) (l-papp k0 k1) = let e0 = low-same h0 k0 in let e1 = low-same h1 k1 in cc
+l-same (l-sigma h0 h1) (l-sigma k0 k1) = let e0 = low-same h0 k0 in let e1 = low-same h1 k1 in cc
+l-same (l-pair h0 h1) (l-pair k0 k1) = let e0 = low-same h0 k0 in let e1 = low-same h1 k1 in cc
+l-same (l-fst h0) (l-fst k0) = let e0 = low-same h0 k0 in cc
+l-same (l-snd h0) (l-snd k0) = let e0 = low-same h0 k0 in cc
 l-same l-i0 l-i0 = refl
 l-same l-i1 l-i1 = refl
 l-same l-dim l-dim = refl
@@ -167,6 +195,10 @@ l-words (l-app h0 h1) (l-app k0 k1) = let e0 = low-number h0 k0 in let e1 = low-
 l-words (l-path h0 h1 h2) (l-path k0 k1 k2) = let e0 = low-number h0 k0 in let e1 = low-number h1 k1 in let e2 = low-number h2 k2 in cc
 l-words (l-plam h0) (l-plam k0) = let e0 = low-number h0 k0 in cc
 l-words (l-papp h0 h1) (l-papp k0 k1) = let e0 = low-number h0 k0 in let e1 = low-number h1 k1 in cc
+l-words (l-sigma h0 h1) (l-sigma k0 k1) = let e0 = low-number h0 k0 in let e1 = low-number h1 k1 in cc
+l-words (l-pair h0 h1) (l-pair k0 k1) = let e0 = low-number h0 k0 in let e1 = low-number h1 k1 in cc
+l-words (l-fst h0) (l-fst k0) = let e0 = low-number h0 k0 in cc
+l-words (l-snd h0) (l-snd k0) = let e0 = low-number h0 k0 in cc
 l-words l-i0 l-i0 = refl
 l-words l-i1 l-i1 = refl
 l-words l-dim l-dim = refl
@@ -187,6 +219,10 @@ s-plain (s-app h0 h1) = (refl, tt, refl)
 s-plain (s-path h0 h1 h2) = (refl, tt, refl)
 s-plain (s-plam h0 h1) = (refl, tt, refl)
 s-plain (s-papp h0 h1) = (refl, tt, refl)
+s-plain (s-sigma h0 h1) = (refl, tt, refl)
+s-plain (s-pair h0 h1 h2) = (refl, tt, refl)
+s-plain (s-fst h0) = (refl, tt, refl)
+s-plain (s-snd h0) = (refl, tt, refl)
 s-plain s-i0 = (refl, tt, refl)
 s-plain s-i1 = (refl, tt, refl)
 s-plain s-dim = (refl, tt, refl)
@@ -207,6 +243,10 @@ l-plain (l-app h0 h1) = (refl, tt, refl)
 l-plain (l-path h0 h1 h2) = (refl, tt, refl)
 l-plain (l-plam h0) = (refl, tt, refl)
 l-plain (l-papp h0 h1) = (refl, tt, refl)
+l-plain (l-sigma h0 h1) = (refl, tt, refl)
+l-plain (l-pair h0 h1) = (refl, tt, refl)
+l-plain (l-fst h0) = (refl, tt, refl)
+l-plain (l-snd h0) = (refl, tt, refl)
 l-plain l-i0 = (refl, tt, refl)
 l-plain l-i1 = (refl, tt, refl)
 l-plain l-dim = (refl, tt, refl)
@@ -228,6 +268,10 @@ parts (term (App a′ b′)) = term a′ ∷ term b′ ∷ []
 parts (term (Path a′ b′ c′)) = term a′ ∷ term b′ ∷ term c′ ∷ []
 parts (term (PathLam a′ b′)) = term a′ ∷ term b′ ∷ []
 parts (term (PathApp a′ b′)) = term a′ ∷ interval b′ ∷ []
+parts (term (Sigma a′ b′)) = term a′ ∷ term b′ ∷ []
+parts (term (Pair a′ b′ c′)) = term a′ ∷ term b′ ∷ term c′ ∷ []
+parts (term (Fst a′)) = term a′ ∷ []
+parts (term (Snd a′)) = term a′ ∷ []
 parts (interval I0) = []
 parts (interval I1) = []
 parts (interval (Dim a′)) = []
@@ -249,6 +293,10 @@ shape-known (s-app h0 h1) = known (held h0) (known (held h1) (none-left))
 shape-known (s-path h0 h1 h2) = known (held h0) (known (held h1) (known (held h2) (none-left)))
 shape-known (s-plam h0 h1) = known (held h0) (known (held h1) (none-left))
 shape-known (s-papp h0 h1) = known (held h0) (known (held h1) (none-left))
+shape-known (s-sigma h0 h1) = known (held h0) (known (held h1) (none-left))
+shape-known (s-pair h0 h1 h2) = known (held h0) (known (held h1) (known (held h2) (none-left)))
+shape-known (s-fst h0) = known (held h0) (none-left)
+shape-known (s-snd h0) = known (held h0) (none-left)
 shape-known s-i0 = none-left
 shape-known s-i1 = none-left
 shape-known s-dim = none-left

@@ -7,10 +7,10 @@ use mathlib.Core.Option.{Option, none, some}
 use native.Mathlib.Nat.{add-zero}
 use lib.Dec.{ltb, ltb→lt}
 use Rattle.walk.specs.Syntax.{Interval, Quote, Quotes}
-use Rattle.walk.specs.Reader.{Kind, k-u, k-v, k-nat, k-zero, k-pi, k-lam, k-app, k-path, k-plam, k-papp, IKind, k-0, k-1, k-dim, k-neg, k-meet, k-join}
+use Rattle.walk.specs.Reader.{Kind, k-u, k-v, k-nat, k-zero, k-pi, k-lam, k-app, k-path, k-plam, k-papp, k-sigma, k-pair, k-fst, k-snd, IKind, k-0, k-1, k-dim, k-neg, k-meet, k-join}
 use Rattle.link.specs.Table.{_>>=_, kind-word, part, interval-by, quote-by, CKind, k-nil, k-cons, context-by, lower, interval-at, quote-at, context-at}
 use Rattle.text.specs.Text.{cell-word}
-use Rattle.text.specs.Said.{Part-in, Interval-cell, cell-0, cell-1, cell-dim, cell-neg, cell-meet, cell-join, Quote-cell, cell-u, cell-v, cell-nat, cell-zero, cell-pi, cell-lam, cell-app, cell-path, cell-plam, cell-papp, Context-cell, cell-nil, cell-cons}
+use Rattle.text.specs.Said.{Part-in, Interval-cell, cell-0, cell-1, cell-dim, cell-neg, cell-meet, cell-join, Quote-cell, cell-u, cell-v, cell-nat, cell-zero, cell-pi, cell-lam, cell-app, cell-path, cell-plam, cell-papp, cell-sigma, cell-pair, cell-fst, cell-snd, Context-cell, cell-nil, cell-cons}
 use Rattle.syntax.specs.Kinds.{no-some, kind-byte, kind-is, ikind-byte, ikind-is}
 use Rattle.listed.specs.Kinds.{ckind-byte, ckind-is}
 
@@ -120,6 +120,20 @@ module _ (C : List ℕ) (n f : ℕ) (cell : (m : ℕ) (t : Quote) → quote-at f
       let a = part-then C n 1 (quote-at f C) _ e in
       let b = part-then C n 2 (interval-at f C) _ (a .rest) in
       rw (← some-is (b .rest)) (cell-papp h (a .lies) (cell _ _ (a .is)) (b .lies) (interval-cell f C _ _ (b .is)))
+  quote-kind k-sigma h e =
+      let a = part-then C n 1 (quote-at f C) _ e in
+      let b = part-then C n 2 (quote-at f C) _ (a .rest) in
+      rw (← some-is (b .rest)) (cell-sigma h (a .lies) (cell _ _ (a .is)) (b .lies) (cell _ _ (b .is)))
+  quote-kind k-pair h e =
+      let b = part-then C n 2 (quote-at f C) _ e in
+      let c = part-then C n 3 (quote-at f C) _ (b .rest) in
+      rw (← some-is (c .rest)) (cell-pair h (b .lies) (cell _ _ (b .is)) (c .lies) (cell _ _ (c .is)))
+  quote-kind k-fst h e =
+      let a = part-then C n 1 (quote-at f C) _ e in
+      rw (← some-is (a .rest)) (cell-fst h (a .lies) (cell _ _ (a .is)))
+  quote-kind k-snd h e =
+      let a = part-then C n 1 (quote-at f C) _ e in
+      rw (← some-is (a .rest)) (cell-snd h (a .lies) (cell _ _ (a .is)))
   -- end of cell of a quote
 
 pub quote-cell : (f : ℕ) (C : List ℕ) (n : ℕ) (q : Quote) → quote-at f C n ≡ some q → Quote-cell C n q

@@ -10,15 +10,15 @@ use mathlib.Core.Bool.{Bool, true, false}
 use native.Mathlib.Decide.{ℕ-discrete, decLt, decLe}
 use native.Mathlib.Omega.{arith}
 use lib.ListN.{length}
-use Rattle.walk.specs.Syntax.{Interval, I0, I1, Dim, Neg, Meet, Join, Term, Universe, Var, Nat, Zero, Pi, Lam, App, Path, PathLam, PathApp, Context, Nil, Cons, quote, quotes, quote?}
-use Rattle.walk.specs.Judgment.{Judgment, ctx, dshiftctx, lookup, lt, le, interval, ishift, isubst, shift, subst, dshift, dsubst, has, eq}
+use Rattle.walk.specs.Syntax.{Interval, I0, I1, Dim, Neg, Meet, Join, Term, Universe, Var, Nat, Zero, Pi, Lam, App, Path, PathLam, PathApp, Sigma, Pair, Fst, Snd, Context, Nil, Cons, quote, quotes, quote?}
+use Rattle.walk.specs.Judgment.{Judgment, ctx, dshiftctx, lookup, lt, le, max, interval, ishift, isubst, shift, subst, dshift, dsubst, has, eq}
 use Rattle.walk.specs.State.{Row, Key, key, key?, Thing, inference, State, Outcome, done, refused, M, go-on, looking, _>>=_, pure, refuse, if_then_else_, from_get_or_, row-of, with-row, push, emit, among, with-cell, count, count-all, recall, Memory, with-memory, store, remember, with-conversions, ended, converted, converting, with-deepest, note, enter, of-term, of-interval, of-context}
 use Rattle.walk.specs.Walk.Reference.{Op, Shift, Subst, DShift, DSubst, IOp, IShift, ISubst, Step, Found, Callees, of-op, of-iop}
 use Rattle.walk.specs.Walk.Numbers.{lt-by, le-by, larger, comparison-body, max-body}
 use Rattle.walk.specs.Walk.Intervals.{itransformed, ifinish, idim-above, idim, itransform-body, interval-body}
 use Rattle.walk.specs.Walk.Transforms.{under-body, transformed, finish, tvar-above, tvar, tinterval, tbinder, transform-body}
 use Rattle.walk.specs.Walk.Contexts.{dshiftctx-body, new-ctx, ctx-body, lookup-body}
-use Rattle.walk.specs.Walk.Typing.{level, pi-parts, lam-parts, path-parts, plam-parts, expose-body, universe-body, check-body, as-pi, as-path, found, find-binder, find, new-infer, infer-body}
+use Rattle.walk.specs.Walk.Typing.{level, pi-parts, lam-parts, path-parts, plam-parts, sigma-parts, pair-parts, expose-body, universe-body, check-body, as-pi, as-path, found, find-binder, find, new-infer, infer-body}
 use Rattle.walk.specs.Walk.Equality.{beta, at-end, pbeta, ends, reduce-body, rounds, normalize-body, equal-body}
 use Rattle.walk.specs.Refusal as Refusal
 use Rattle.walk.specs.Walk.{none-left, entered, callees-by, one-more, callees}

@@ -7,7 +7,7 @@ use native.Mathlib.Omega.{arith}
 use lib.ListN.{length}
 use lib.Dec.{ltb, leb, lt→ltb, T}
 use native.Mathlib.Decide.{decLe}
-use Rattle.walk.specs.Syntax.{Interval, I0, I1, Dim, Neg, Meet, Join, Term, Universe, Var, Nat, Zero, Pi, Lam, App, Path, PathLam, PathApp, Context, Cons}
+use Rattle.walk.specs.Syntax.{Interval, I0, I1, Dim, Neg, Meet, Join, Term, Universe, Var, Nat, Zero, Pi, Lam, App, Path, PathLam, PathApp, Sigma, Pair, Fst, Snd, Context, Cons}
 use Rattle.walk.specs.Reader.{Call}
 use Rattle.walk.specs.Limits.{Sized, fits, scope-over, size-over, index-over, size-on, node, size-interval, size-term, size-terms, size-call}
 use Rattle.walk.specs.Run.{scope-of, nth}

@@ -11,7 +11,7 @@ use denote.Enum.Declared as enum
 use types.Run.{OneOf}
 use Rattle.walk.specs.Refusal as Refusal
 use Rattle.ast.specs.declared.cells.Shape.{Shape}
-use Rattle.ast.specs.declared.cells.Shape.the-variants.{Universe, Pi, Lam, Path, Plam, Other}
+use Rattle.ast.specs.declared.cells.Shape.the-variants.{Universe, Pi, Lam, Path, Plam, Sigma, Pair, Other}
 use Rattle.ast.proofs.cells.Shape as shape
 use Rattle.producer.specs.declared.state.Got.{Got}
 use Rattle.producer.specs.declared.state.Got.the-variants as got
@@ -19,7 +19,7 @@ use Rattle.producer.specs.declared.state.Two.{Two}
 use Rattle.producer.specs.declared.state.Two.the-variants as two
 use Rattle.producer.specs.declared.intervals.IOp.{IOp}
 use Rattle.producer.specs.declared.transforms.Op.{Op}
-use Rattle.producer.specs.Machine.{Machine, W, next, _>>=_, give, stop, enter, note, end, end-2, ended, ended-1, ended-2, on-universe, on-pi, on-lam, on-path, on-plam}
+use Rattle.producer.specs.Machine.{Machine, W, next, _>>=_, give, stop, enter, note, end, end-2, ended, ended-1, ended-2, on-universe, on-pi, on-lam, on-path, on-plam, on-sigma, on-pair}
 use Rattle.producer.specs.Callees.{Callees}
 use Rattle.producer.specs.Calls.{none-left, entered, callees}
 use Rattle.producer.specs.Numbers.{comparison-body, max-body}
@@ -196,71 +196,87 @@ ended-two-end (two.Refused s e) R C = refl
 -- a shape that is not the one taken apart: its tag is one of the others'
 
 -- written by tools/written.py: shapes
-pub not-universe : {A : Type 0} (x : Shape) → OneOf (1 ∷ 2 ∷ 3 ∷ 4 ∷ 5 ∷ []) (enum.tagOf shape.the-type x) → (f : ℕ → W A) (z : W A) → on-universe x f z ≡ z
+pub not-universe : {A : Type 0} (x : Shape) → OneOf (1 ∷ 2 ∷ 3 ∷ 4 ∷ 5 ∷ 6 ∷ 7 ∷ []) (enum.tagOf shape.the-type x) → (f : ℕ → W A) (z : W A) → on-universe x f z ≡ z
 unfolding on-universe
 not-universe (Universe n) h f z = absurd (none-of h)
   where
-    none-of : OneOf (1 ∷ 2 ∷ 3 ∷ 4 ∷ 5 ∷ []) 0 → ⊥
+    none-of : OneOf (1 ∷ 2 ∷ 3 ∷ 4 ∷ 5 ∷ 6 ∷ 7 ∷ []) 0 → ⊥
     none-of (inl e) = omega arith
     none-of (inr (inl e)) = omega arith
     none-of (inr (inr (inl e))) = omega arith
     none-of (inr (inr (inr (inl e)))) = omega arith
-    none-of (inr (inr (inr (inr e)))) = omega arith
+    none-of (inr (inr (inr (inr (inl e))))) = omega arith
+    none-of (inr (inr (inr (inr (inr (inl e)))))) = omega arith
+    none-of (inr (inr (inr (inr (inr (inr e)))))) = omega arith
 not-universe (Pi a b) h f z = refl
 not-universe (Lam a b) h f z = refl
 not-universe (Path a b c) h f z = refl
 not-universe (Plam a b) h f z = refl
+not-universe (Sigma a b) h f z = refl
+not-universe (Pair a b c) h f z = refl
 not-universe Other h f z = refl
 
-pub not-pi : {A : Type 0} (x : Shape) → OneOf (0 ∷ 2 ∷ 3 ∷ 4 ∷ 5 ∷ []) (enum.tagOf shape.the-type x) → (f : ℕ → ℕ → W A) (z : W A) → on-pi x f z ≡ z
+pub not-pi : {A : Type 0} (x : Shape) → OneOf (0 ∷ 2 ∷ 3 ∷ 4 ∷ 5 ∷ 6 ∷ 7 ∷ []) (enum.tagOf shape.the-type x) → (f : ℕ → ℕ → W A) (z : W A) → on-pi x f z ≡ z
 unfolding on-pi
 not-pi (Universe n) h f z = refl
 not-pi (Pi a b) h f z = absurd (none-of h)
   where
-    none-of : OneOf (0 ∷ 2 ∷ 3 ∷ 4 ∷ 5 ∷ []) 1 → ⊥
+    none-of : OneOf (0 ∷ 2 ∷ 3 ∷ 4 ∷ 5 ∷ 6 ∷ 7 ∷ []) 1 → ⊥
     none-of (inl e) = omega arith
     none-of (inr (inl e)) = omega arith
     none-of (inr (inr (inl e))) = omega arith
     none-of (inr (inr (inr (inl e)))) = omega arith
-    none-of (inr (inr (inr (inr e)))) = omega arith
+    none-of (inr (inr (inr (inr (inl e))))) = omega arith
+    none-of (inr (inr (inr (inr (inr (inl e)))))) = omega arith
+    none-of (inr (inr (inr (inr (inr (inr e)))))) = omega arith
 not-pi (Lam a b) h f z = refl
 not-pi (Path a b c) h f z = refl
 not-pi (Plam a b) h f z = refl
+not-pi (Sigma a b) h f z = refl
+not-pi (Pair a b c) h f z = refl
 not-pi Other h f z = refl
 
-pub not-lam : {A : Type 0} (x : Shape) → OneOf (0 ∷ 1 ∷ 3 ∷ 4 ∷ 5 ∷ []) (enum.tagOf shape.the-type x) → (f : ℕ → ℕ → W A) (z : W A) → on-lam x f z ≡ z
+pub not-lam : {A : Type 0} (x : Shape) → OneOf (0 ∷ 1 ∷ 3 ∷ 4 ∷ 5 ∷ 6 ∷ 7 ∷ []) (enum.tagOf shape.the-type x) → (f : ℕ → ℕ → W A) (z : W A) → on-lam x f z ≡ z
 unfolding on-lam
 not-lam (Universe n) h f z = refl
 not-lam (Pi a b) h f z = refl
 not-lam (Lam a b) h f z = absurd (none-of h)
   where
-    none-of : OneOf (0 ∷ 1 ∷ 3 ∷ 4 ∷ 5 ∷ []) 2 → ⊥
+    none-of : OneOf (0 ∷ 1 ∷ 3 ∷ 4 ∷ 5 ∷ 6 ∷ 7 ∷ []) 2 → ⊥
     none-of (inl e) = omega arith
     none-of (inr (inl e)) = omega arith
     none-of (inr (inr (inl e))) = omega arith
     none-of (inr (inr (inr (inl e)))) = omega arith
-    none-of (inr (inr (inr (inr e)))) = omega arith
+    none-of (inr (inr (inr (inr (inl e))))) = omega arith
+    none-of (inr (inr (inr (inr (inr (inl e)))))) = omega arith
+    none-of (inr (inr (inr (inr (inr (inr e)))))) = omega arith
 not-lam (Path a b c) h f z = refl
 not-lam (Plam a b) h f z = refl
+not-lam (Sigma a b) h f z = refl
+not-lam (Pair a b c) h f z = refl
 not-lam Other h f z = refl
 
-pub not-path : {A : Type 0} (x : Shape) → OneOf (0 ∷ 1 ∷ 2 ∷ 4 ∷ 5 ∷ []) (enum.tagOf shape.the-type x) → (f : ℕ → ℕ → ℕ → W A) (z : W A) → on-path x f z ≡ z
+pub not-path : {A : Type 0} (x : Shape) → OneOf (0 ∷ 1 ∷ 2 ∷ 4 ∷ 5 ∷ 6 ∷ 7 ∷ []) (enum.tagOf shape.the-type x) → (f : ℕ → ℕ → ℕ → W A) (z : W A) → on-path x f z ≡ z
 unfolding on-path
 not-path (Universe n) h f z = refl
 not-path (Pi a b) h f z = refl
 not-path (Lam a b) h f z = refl
 not-path (Path a b c) h f z = absurd (none-of h)
   where
-    none-of : OneOf (0 ∷ 1 ∷ 2 ∷ 4 ∷ 5 ∷ []) 3 → ⊥
+    none-of : OneOf (0 ∷ 1 ∷ 2 ∷ 4 ∷ 5 ∷ 6 ∷ 7 ∷ []) 3 → ⊥
     none-of (inl e) = omega arith
     none-of (inr (inl e)) = omega arith
     none-of (inr (inr (inl e))) = omega arith
     none-of (inr (inr (inr (inl e)))) = omega arith
-    none-of (inr (inr (inr (inr e)))) = omega arith
+    none-of (inr (inr (inr (inr (inl e))))) = omega arith
+    none-of (inr (inr (inr (inr (inr (inl e)))))) = omega arith
+    none-of (inr (inr (inr (inr (inr (inr e)))))) = omega arith
 not-path (Plam a b) h f z = refl
+not-path (Sigma a b) h f z = refl
+not-path (Pair a b c) h f z = refl
 not-path Other h f z = refl
 
-pub not-plam : {A : Type 0} (x : Shape) → OneOf (0 ∷ 1 ∷ 2 ∷ 3 ∷ 5 ∷ []) (enum.tagOf shape.the-type x) → (f : ℕ → ℕ → W A) (z : W A) → on-plam x f z ≡ z
+pub not-plam : {A : Type 0} (x : Shape) → OneOf (0 ∷ 1 ∷ 2 ∷ 3 ∷ 5 ∷ 6 ∷ 7 ∷ []) (enum.tagOf shape.the-type x) → (f : ℕ → ℕ → W A) (z : W A) → on-plam x f z ≡ z
 unfolding on-plam
 not-plam (Universe n) h f z = refl
 not-plam (Pi a b) h f z = refl
@@ -268,13 +284,57 @@ not-plam (Lam a b) h f z = refl
 not-plam (Path a b c) h f z = refl
 not-plam (Plam a b) h f z = absurd (none-of h)
   where
-    none-of : OneOf (0 ∷ 1 ∷ 2 ∷ 3 ∷ 5 ∷ []) 4 → ⊥
+    none-of : OneOf (0 ∷ 1 ∷ 2 ∷ 3 ∷ 5 ∷ 6 ∷ 7 ∷ []) 4 → ⊥
     none-of (inl e) = omega arith
     none-of (inr (inl e)) = omega arith
     none-of (inr (inr (inl e))) = omega arith
     none-of (inr (inr (inr (inl e)))) = omega arith
-    none-of (inr (inr (inr (inr e)))) = omega arith
+    none-of (inr (inr (inr (inr (inl e))))) = omega arith
+    none-of (inr (inr (inr (inr (inr (inl e)))))) = omega arith
+    none-of (inr (inr (inr (inr (inr (inr e)))))) = omega arith
+not-plam (Sigma a b) h f z = refl
+not-plam (Pair a b c) h f z = refl
 not-plam Other h f z = refl
+
+pub not-sigma : {A : Type 0} (x : Shape) → OneOf (0 ∷ 1 ∷ 2 ∷ 3 ∷ 4 ∷ 6 ∷ 7 ∷ []) (enum.tagOf shape.the-type x) → (f : ℕ → ℕ → W A) (z : W A) → on-sigma x f z ≡ z
+unfolding on-sigma
+not-sigma (Universe n) h f z = refl
+not-sigma (Pi a b) h f z = refl
+not-sigma (Lam a b) h f z = refl
+not-sigma (Path a b c) h f z = refl
+not-sigma (Plam a b) h f z = refl
+not-sigma (Sigma a b) h f z = absurd (none-of h)
+  where
+    none-of : OneOf (0 ∷ 1 ∷ 2 ∷ 3 ∷ 4 ∷ 6 ∷ 7 ∷ []) 5 → ⊥
+    none-of (inl e) = omega arith
+    none-of (inr (inl e)) = omega arith
+    none-of (inr (inr (inl e))) = omega arith
+    none-of (inr (inr (inr (inl e)))) = omega arith
+    none-of (inr (inr (inr (inr (inl e))))) = omega arith
+    none-of (inr (inr (inr (inr (inr (inl e)))))) = omega arith
+    none-of (inr (inr (inr (inr (inr (inr e)))))) = omega arith
+not-sigma (Pair a b c) h f z = refl
+not-sigma Other h f z = refl
+
+pub not-pair : {A : Type 0} (x : Shape) → OneOf (0 ∷ 1 ∷ 2 ∷ 3 ∷ 4 ∷ 5 ∷ 7 ∷ []) (enum.tagOf shape.the-type x) → (f : ℕ → ℕ → ℕ → W A) (z : W A) → on-pair x f z ≡ z
+unfolding on-pair
+not-pair (Universe n) h f z = refl
+not-pair (Pi a b) h f z = refl
+not-pair (Lam a b) h f z = refl
+not-pair (Path a b c) h f z = refl
+not-pair (Plam a b) h f z = refl
+not-pair (Sigma a b) h f z = refl
+not-pair (Pair a b c) h f z = absurd (none-of h)
+  where
+    none-of : OneOf (0 ∷ 1 ∷ 2 ∷ 3 ∷ 4 ∷ 5 ∷ 7 ∷ []) 6 → ⊥
+    none-of (inl e) = omega arith
+    none-of (inr (inl e)) = omega arith
+    none-of (inr (inr (inl e))) = omega arith
+    none-of (inr (inr (inr (inl e)))) = omega arith
+    none-of (inr (inr (inr (inr (inl e))))) = omega arith
+    none-of (inr (inr (inr (inr (inr (inl e)))))) = omega arith
+    none-of (inr (inr (inr (inr (inr (inr e)))))) = omega arith
+not-pair Other h f z = refl
 
 -- end of shapes
 

@@ -2,13 +2,13 @@
 -- a method's contract: those stay shut where the method is called. Assumes nothing.
 use Rattle.producer.specs.Answers.{two-as-got, two-as-function, two-as-four, two-as-inferred, two-as-reduced, got-as-two, got-as-four, got-as-inferred, got-as-reduced, got-as-round, function-as-inferred, four-as-inferred, four-as-reduced, inferred-as-two, done-as-two}
 use Rattle.producer.specs.Equality.{on-step, on-next}
-use Rattle.producer.specs.Machine.{next, _>>=_, give, stop, when_then_else_, open-cell, lowest, same-quote, at-universe, at-pi, at-lam, at-path, at-plam, on-universe, on-pi, on-lam, on-path, on-plam, converting, recall-or, recalled-or, enter, note, end-0, end, end-2, end-3, end-4, end-cited, end-inner, end-found, end-step, end-round}
+use Rattle.producer.specs.Machine.{next, _>>=_, give, stop, when_then_else_, open-cell, lowest, same-quote, at-universe, at-pi, at-lam, at-path, at-plam, at-sigma, at-pair, on-universe, on-pi, on-lam, on-path, on-plam, on-sigma, on-pair, converting, recall-or, recalled-or, enter, note, end-0, end, end-2, end-3, end-4, end-cited, end-inner, end-found, end-step, end-round}
 use Rattle.producer.specs.Numbers.{lt-by, le-by}
 use Rattle.producer.specs.Typing.{found, ctx-by}
 
 -- written by tools/written.py: shapes
 unfoldable pub shapes : Unit {0}
-unfolding at-universe at-pi at-lam at-path at-plam on-universe on-pi on-lam on-path on-plam
+unfolding at-universe at-pi at-lam at-path at-plam at-sigma at-pair on-universe on-pi on-lam on-path on-plam on-sigma on-pair
 shapes = tt
 
 -- end of shapes

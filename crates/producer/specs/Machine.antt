@@ -15,7 +15,7 @@ use Rattle.ast.specs.Index.{last-on, end-on, linked, mixed, hash-4}
 use Rattle.ast.specs.Nodes.{find-node, lowest-of, link-cell, recall-of}
 use Rattle.ast.specs.declared.cells.Cell.{Cell}
 use Rattle.ast.specs.declared.cells.Shape.{Shape}
-use Rattle.ast.specs.declared.cells.Shape.the-variants.{Universe, Pi, Lam, Path, Plam, Other}
+use Rattle.ast.specs.declared.cells.Shape.the-variants.{Universe, Pi, Lam, Path, Plam, Sigma, Pair, Other}
 use Rattle.ast.specs.declared.cells.Found.{Found}
 use Rattle.ast.specs.declared.cells.Found.the-variants.{At, Nothing}
 use Rattle.ast.specs.declared.cells.Recalled.{Recalled}
@@ -167,6 +167,8 @@ on-universe (Pi a b) f z = z
 on-universe (Lam a b) f z = z
 on-universe (Path a b c) f z = z
 on-universe (Plam a b) f z = z
+on-universe (Sigma a b) f z = z
+on-universe (Pair a b c) f z = z
 on-universe Other f z = z
 
 unfoldable pub on-pi : {A : Type 0} → Shape → (ℕ → ℕ → W A) → W A → W A
@@ -175,6 +177,8 @@ on-pi (Pi a b) f z = f a b
 on-pi (Lam a b) f z = z
 on-pi (Path a b c) f z = z
 on-pi (Plam a b) f z = z
+on-pi (Sigma a b) f z = z
+on-pi (Pair a b c) f z = z
 on-pi Other f z = z
 
 unfoldable pub on-lam : {A : Type 0} → Shape → (ℕ → ℕ → W A) → W A → W A
@@ -183,6 +187,8 @@ on-lam (Pi a b) f z = z
 on-lam (Lam a b) f z = f a b
 on-lam (Path a b c) f z = z
 on-lam (Plam a b) f z = z
+on-lam (Sigma a b) f z = z
+on-lam (Pair a b c) f z = z
 on-lam Other f z = z
 
 unfoldable pub on-path : {A : Type 0} → Shape → (ℕ → ℕ → ℕ → W A) → W A → W A
@@ -191,6 +197,8 @@ on-path (Pi a b) f z = z
 on-path (Lam a b) f z = z
 on-path (Path a b c) f z = f a b c
 on-path (Plam a b) f z = z
+on-path (Sigma a b) f z = z
+on-path (Pair a b c) f z = z
 on-path Other f z = z
 
 unfoldable pub on-plam : {A : Type 0} → Shape → (ℕ → ℕ → W A) → W A → W A
@@ -199,7 +207,29 @@ on-plam (Pi a b) f z = z
 on-plam (Lam a b) f z = z
 on-plam (Path a b c) f z = z
 on-plam (Plam a b) f z = f a b
+on-plam (Sigma a b) f z = z
+on-plam (Pair a b c) f z = z
 on-plam Other f z = z
+
+unfoldable pub on-sigma : {A : Type 0} → Shape → (ℕ → ℕ → W A) → W A → W A
+on-sigma (Universe n) f z = z
+on-sigma (Pi a b) f z = z
+on-sigma (Lam a b) f z = z
+on-sigma (Path a b c) f z = z
+on-sigma (Plam a b) f z = z
+on-sigma (Sigma a b) f z = f a b
+on-sigma (Pair a b c) f z = z
+on-sigma Other f z = z
+
+unfoldable pub on-pair : {A : Type 0} → Shape → (ℕ → ℕ → ℕ → W A) → W A → W A
+on-pair (Universe n) f z = z
+on-pair (Pi a b) f z = z
+on-pair (Lam a b) f z = z
+on-pair (Path a b c) f z = z
+on-pair (Plam a b) f z = z
+on-pair (Sigma a b) f z = z
+on-pair (Pair a b c) f z = f a b c
+on-pair Other f z = z
 
 unfoldable pub at-universe : {A : Type 0} → ℕ → (ℕ → W A) → W A → W A
 at-universe i f z = λ w. on-universe (shape-of (w .cells) i) f z w
@@ -215,6 +245,12 @@ at-path i f z = λ w. on-path (shape-of (w .cells) i) f z w
 
 unfoldable pub at-plam : {A : Type 0} → ℕ → (ℕ → ℕ → W A) → W A → W A
 at-plam i f z = λ w. on-plam (shape-of (w .cells) i) f z w
+
+unfoldable pub at-sigma : {A : Type 0} → ℕ → (ℕ → ℕ → W A) → W A → W A
+at-sigma i f z = λ w. on-sigma (shape-of (w .cells) i) f z w
+
+unfoldable pub at-pair : {A : Type 0} → ℕ → (ℕ → ℕ → ℕ → W A) → W A → W A
+at-pair i f z = λ w. on-pair (shape-of (w .cells) i) f z w
 
 -- end of shapes
 
@@ -270,6 +306,18 @@ make-plam a b = intern 9 a b 0
 
 abbrev pub make-papp : ℕ → ℕ → W ℕ
 make-papp a b = intern 10 a b 0
+
+abbrev pub make-sigma : ℕ → ℕ → W ℕ
+make-sigma a b = intern 11 a b 0
+
+abbrev pub make-pair : ℕ → ℕ → ℕ → W ℕ
+make-pair a b c = intern 12 a b c
+
+abbrev pub make-fst : ℕ → W ℕ
+make-fst a = intern 13 a 0 0
+
+abbrev pub make-snd : ℕ → W ℕ
+make-snd a = intern 14 a 0 0
 
 abbrev pub make-i0 : W ℕ
 make-i0 = intern 16 0 0 0

@@ -21,7 +21,7 @@ by-op (DSubst k r) a b c d = d
 -- of a term of a kind: a variable has several rules, and what is no term has none
 unfoldable pub rule-of : Op → ℕ → ℕ
 -- written by tools/written.py: rules of a kind
-rule-of op k = ifb (eqb k 1) (by-op op R.shift·u R.subst·u R.dshift·u R.dsubst·u) (ifb (eqb k 3) (by-op op R.shift·nat R.subst·nat R.dshift·nat R.dsubst·nat) (ifb (eqb k 4) (by-op op R.shift·zero R.subst·zero R.dshift·zero R.dsubst·zero) (ifb (eqb k 5) (by-op op R.shift·pi R.subst·pi R.dshift·pi R.dsubst·pi) (ifb (eqb k 6) (by-op op R.shift·lam R.subst·lam R.dshift·lam R.dsubst·lam) (ifb (eqb k 7) (by-op op R.shift·app R.subst·app R.dshift·app R.dsubst·app) (ifb (eqb k 8) (by-op op R.shift·path R.subst·path R.dshift·path R.dsubst·path) (ifb (eqb k 9) (by-op op R.shift·plam R.subst·plam R.dshift·plam R.dsubst·plam) (ifb (eqb k 10) (by-op op R.shift·papp R.subst·papp R.dshift·papp R.dsubst·papp) 0))))))))
+rule-of op k = ifb (eqb k 1) (by-op op R.shift·u R.subst·u R.dshift·u R.dsubst·u) (ifb (eqb k 3) (by-op op R.shift·nat R.subst·nat R.dshift·nat R.dsubst·nat) (ifb (eqb k 4) (by-op op R.shift·zero R.subst·zero R.dshift·zero R.dsubst·zero) (ifb (eqb k 5) (by-op op R.shift·pi R.subst·pi R.dshift·pi R.dsubst·pi) (ifb (eqb k 6) (by-op op R.shift·lam R.subst·lam R.dshift·lam R.dsubst·lam) (ifb (eqb k 7) (by-op op R.shift·app R.subst·app R.dshift·app R.dsubst·app) (ifb (eqb k 8) (by-op op R.shift·path R.subst·path R.dshift·path R.dsubst·path) (ifb (eqb k 9) (by-op op R.shift·plam R.subst·plam R.dshift·plam R.dsubst·plam) (ifb (eqb k 10) (by-op op R.shift·papp R.subst·papp R.dshift·papp R.dsubst·papp) (ifb (eqb k 11) (by-op op R.shift·sigma R.subst·sigma R.dshift·sigma R.dsubst·sigma) (ifb (eqb k 12) (by-op op R.shift·pair R.subst·pair R.dshift·pair R.dsubst·pair) (ifb (eqb k 13) (by-op op R.shift·fst R.subst·fst R.dshift·fst R.dsubst·fst) (ifb (eqb k 14) (by-op op R.shift·snd R.subst·snd R.dshift·snd R.dsubst·snd) 0))))))))))))
 
 -- end of rules of a kind
 

@@ -222,3 +222,47 @@ pub const EQ_PBETA: u32 = 92;
 pub const EQ_P0: u32 = 93;
 
 pub const EQ_P1: u32 = 94;
+
+pub const TYPE_SIGMA: u32 = 95;
+
+pub const TYPE_PAIR: u32 = 96;
+
+pub const TYPE_FST: u32 = 97;
+
+pub const TYPE_SND: u32 = 98;
+
+pub const EQ_FST_BETA: u32 = 99;
+
+pub const EQ_SND_BETA: u32 = 100;
+
+pub const SHIFT_SIGMA: u32 = 101;
+
+pub const SHIFT_PAIR: u32 = 102;
+
+pub const SHIFT_FST: u32 = 103;
+
+pub const SHIFT_SND: u32 = 104;
+
+pub const SUBST_SIGMA: u32 = 105;
+
+pub const SUBST_PAIR: u32 = 106;
+
+pub const SUBST_FST: u32 = 107;
+
+pub const SUBST_SND: u32 = 108;
+
+pub const DSHIFT_SIGMA: u32 = 109;
+
+pub const DSHIFT_PAIR: u32 = 110;
+
+pub const DSHIFT_FST: u32 = 111;
+
+pub const DSHIFT_SND: u32 = 112;
+
+pub const DSUBST_SIGMA: u32 = 113;
+
+pub const DSUBST_PAIR: u32 = 114;
+
+pub const DSUBST_FST: u32 = 115;
+
+pub const DSUBST_SND: u32 = 116;

@@ -119,6 +119,34 @@ pub fn rule_of(op: Op, kind: u32) -> u32
             codes::DSHIFT_PAPP,
             codes::DSUBST_PAPP,
         ),
+        kinds::SIGMA => by_op(
+            op,
+            codes::SHIFT_SIGMA,
+            codes::SUBST_SIGMA,
+            codes::DSHIFT_SIGMA,
+            codes::DSUBST_SIGMA,
+        ),
+        kinds::PAIR => by_op(
+            op,
+            codes::SHIFT_PAIR,
+            codes::SUBST_PAIR,
+            codes::DSHIFT_PAIR,
+            codes::DSUBST_PAIR,
+        ),
+        kinds::FST => by_op(
+            op,
+            codes::SHIFT_FST,
+            codes::SUBST_FST,
+            codes::DSHIFT_FST,
+            codes::DSUBST_FST,
+        ),
+        kinds::SND => by_op(
+            op,
+            codes::SHIFT_SND,
+            codes::SUBST_SND,
+            codes::DSHIFT_SND,
+            codes::DSUBST_SND,
+        ),
         // end of rules of a kind
         _ => 0,
     }

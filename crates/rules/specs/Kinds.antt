@@ -97,7 +97,11 @@ nodes =
     ("path" shows (term in-word 1) ∷ (term in-word 2) ∷ (term in-word 3) ∷ []) ∷
     ("plam" shows (term in-word 2) ∷ []) ∷
     ("papp" shows (term in-word 1) ∷ (interval in-word 2) ∷ []) ∷
-    replicate 5 no-node ++
+    ("sigma" shows (term in-word 1) ∷ (term in-word 2) ∷ []) ∷
+    ("pair" shows (term in-word 2) ∷ (term in-word 3) ∷ []) ∷
+    ("fst" shows (term in-word 1) ∷ []) ∷
+    ("snd" shows (term in-word 1) ∷ []) ∷
+    no-node ∷
     ("i0" shows []) ∷
     ("i1" shows []) ∷
     ("dim" shows (number in-word 1) ∷ []) ∷

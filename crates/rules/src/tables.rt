@@ -2,14 +2,14 @@
 // Written by tools/written.py from tools/language.py; `python3 tools/written.py` makes it again.
 
 // How many rules, judgments and nodes there are.
-pub const RULES: u32 = 95;
+pub const RULES: u32 = 117;
 
 pub const JUDGMENTS: u32 = 15;
 
 pub const NODES: u32 = 34;
 
 // Names take 16 bytes each, filled up with _.
-pub const RULE_NAMES: [u8; 1520] = *b"\
+pub const RULE_NAMES: [u8; 1872] = *b"\
     ctx.nil_________\
     ctx.cons________\
     dshiftctx.nil___\
@@ -104,9 +104,31 @@ pub const RULE_NAMES: [u8; 1520] = *b"\
     eq.beta_________\
     eq.pbeta________\
     eq.p0___________\
-    eq.p1___________";
+    eq.p1___________\
+    type.sigma______\
+    type.pair_______\
+    type.fst________\
+    type.snd________\
+    eq.fst-beta_____\
+    eq.snd-beta_____\
+    shift.sigma_____\
+    shift.pair______\
+    shift.fst_______\
+    shift.snd_______\
+    subst.sigma_____\
+    subst.pair______\
+    subst.fst_______\
+    subst.snd_______\
+    dshift.sigma____\
+    dshift.pair_____\
+    dshift.fst______\
+    dshift.snd______\
+    dsubst.sigma____\
+    dsubst.pair_____\
+    dsubst.fst______\
+    dsubst.snd______";
 
-pub const RULE_LENGTHS: [usize; 95] = [
+pub const RULE_LENGTHS: [usize; 117] = [
     7,
     8,
     13,
@@ -202,10 +224,32 @@ pub const RULE_LENGTHS: [usize; 95] = [
     8,
     5,
     5,
+    10,
+    9,
+    8,
+    8,
+    11,
+    11,
+    11,
+    10,
+    9,
+    9,
+    11,
+    10,
+    9,
+    9,
+    12,
+    11,
+    10,
+    10,
+    12,
+    11,
+    10,
+    10,
 ];
 
 // The kind of judgment that each rule concludes.
-pub const RULE_KINDS: [u32; 95] = [
+pub const RULE_KINDS: [u32; 117] = [
     0,
     0,
     1,
@@ -301,6 +345,28 @@ pub const RULE_KINDS: [u32; 95] = [
     14,
     14,
     14,
+    13,
+    13,
+    13,
+    13,
+    14,
+    14,
+    9,
+    9,
+    9,
+    9,
+    10,
+    10,
+    10,
+    10,
+    11,
+    11,
+    11,
+    11,
+    12,
+    12,
+    12,
+    12,
 ];
 
 pub const JUDGMENT_NAMES: [u8; 240] = *b"\
@@ -416,10 +482,10 @@ pub const NODE_NAMES: [u8; 544] = *b"\
     path____________\
     plam____________\
     papp____________\
-    ________________\
-    ________________\
-    ________________\
-    ________________\
+    sigma___________\
+    pair____________\
+    fst_____________\
+    snd_____________\
     ________________\
     i0______________\
     i1______________\
@@ -452,10 +518,10 @@ pub const NODE_LENGTHS: [usize; 34] = [
     4,
     4,
     4,
-    0,
-    0,
-    0,
-    0,
+    5,
+    4,
+    3,
+    3,
     0,
     2,
     2,
@@ -512,16 +578,16 @@ pub const PART_SORTS: [u32; 102] = [
     2,
     3,
     0,
+    2,
+    2,
+    0,
+    2,
+    2,
+    0,
+    2,
     0,
     0,
-    0,
-    0,
-    0,
-    0,
-    0,
-    0,
-    0,
-    0,
+    2,
     0,
     0,
     0,
@@ -617,16 +683,16 @@ pub const PART_WORDS: [u32; 102] = [
     1,
     2,
     0,
+    1,
+    2,
+    0,
+    2,
+    3,
+    0,
+    1,
     0,
     0,
-    0,
-    0,
-    0,
-    0,
-    0,
-    0,
-    0,
-    0,
+    1,
     0,
     0,
     0,

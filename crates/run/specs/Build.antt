@@ -13,7 +13,7 @@ byte-at bytes i = getD bytes i 0
 -- what follows a kind's byte: 1 nothing, 2 a number, 3 one part, 4 two parts, 5 three parts; 0 for no kind
 unfoldable pub parts-of : ℕ → ℕ
 -- written by tools/written.py: what follows a kind
-parts-of k = ifb (eqb k 1) 2 (ifb (eqb k 2) 2 (ifb (eqb k 3) 1 (ifb (eqb k 4) 1 (ifb (eqb k 5) 4 (ifb (eqb k 6) 4 (ifb (eqb k 7) 4 (ifb (eqb k 8) 5 (ifb (eqb k 9) 4 (ifb (eqb k 10) 4 (ifb (eqb k 16) 1 (ifb (eqb k 17) 1 (ifb (eqb k 18) 2 (ifb (eqb k 19) 3 (ifb (eqb k 20) 4 (ifb (eqb k 21) 4 0)))))))))))))))
+parts-of k = ifb (eqb k 1) 2 (ifb (eqb k 2) 2 (ifb (eqb k 3) 1 (ifb (eqb k 4) 1 (ifb (eqb k 5) 4 (ifb (eqb k 6) 4 (ifb (eqb k 7) 4 (ifb (eqb k 8) 5 (ifb (eqb k 9) 4 (ifb (eqb k 10) 4 (ifb (eqb k 11) 4 (ifb (eqb k 12) 5 (ifb (eqb k 13) 3 (ifb (eqb k 14) 3 (ifb (eqb k 16) 1 (ifb (eqb k 17) 1 (ifb (eqb k 18) 2 (ifb (eqb k 19) 3 (ifb (eqb k 20) 4 (ifb (eqb k 21) 4 0)))))))))))))))))))
 
 -- end of what follows a kind
 

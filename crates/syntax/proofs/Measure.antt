@@ -8,8 +8,8 @@ use lib.Dec.{ltb, leb}
 use lib.ListN.{length, getD, drop}
 use Rattle.syntax.specs.Told.{term-at}
 use Rattle.walk.specs.Refusal as Refusal
-use Rattle.walk.specs.Syntax.{I0, I1, Dim, Neg, Meet, Join, Term, Universe, Var, Nat, Zero, Pi, Lam, App, Path, PathLam, PathApp}
-use Rattle.walk.specs.Reader.{Read, got, bad, Reader, read-on, _>>=_, ok, byte, meant, one-of, k-u, k-v, k-nat, k-zero, k-pi, k-lam, k-app, k-path, k-plam, k-papp, k-0, k-1, k-dim, k-neg, k-meet, k-join, kinds, ikinds, read-term, read-interval}
+use Rattle.walk.specs.Syntax.{I0, I1, Dim, Neg, Meet, Join, Term, Universe, Var, Nat, Zero, Pi, Lam, App, Path, PathLam, PathApp, Sigma, Pair, Fst, Snd}
+use Rattle.walk.specs.Reader.{Read, got, bad, Reader, read-on, _>>=_, ok, byte, meant, one-of, k-u, k-v, k-nat, k-zero, k-pi, k-lam, k-app, k-path, k-plam, k-papp, k-sigma, k-pair, k-fst, k-snd, k-0, k-1, k-dim, k-neg, k-meet, k-join, kinds, ikinds, read-term, read-interval}
 use Rattle.walk.specs.Limits.{Sized, fits, scope-over, size-over, index-over, size-on, node, size-interval, size-term}
 use Rattle.syntax.specs.Parts.{Part, index, term, interval, parts, iparts, of-kind, after, counted, Counts}
 use Rattle.syntax.specs.declared.limits.Counted.{Counted}
@@ -187,6 +187,10 @@ sizes-term (ℕ.suc f) depth =
       | k-path ↦ then (part (own depth)) (λ a. then (part _) (λ b. then (part _) (λ c. done (Path a b c) (λ n. three (own depth n) _ _ _))))
       | k-plam ↦ then (part (own depth)) (λ a. then (part _) (λ b. done (PathLam a b) (λ n. size-on-on (own depth n) _ _)))
       | k-papp ↦ then (part (own depth)) (λ a. then (after-size _ (sizes-interval f (depth + 1))) (λ b. done (PathApp a b) (λ n. size-on-on (own depth n) _ _)))
+      | k-sigma ↦ then (part (own depth)) (λ a. then (part _) (λ b. done (Sigma a b) (λ n. size-on-on (own depth n) _ _)))
+      | k-pair ↦ then (part (own depth)) (λ a. then (part _) (λ b. then (part _) (λ c. done (Pair a b c) (λ n. three (own depth n) _ _ _))))
+      | k-fst ↦ then (part (own depth)) (λ a. done (Fst a) (λ n. refl))
+      | k-snd ↦ then (part (own depth)) (λ a. done (Snd a) (λ n. refl))
       -- end of kinds of a term
     ])
 

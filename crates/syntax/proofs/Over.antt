@@ -6,7 +6,7 @@ use mathlib.Core.Option.{Option, none, some}
 use native.Mathlib.Omega.{arith}
 use lib.ListN.{length, getD}
 use Rattle.walk.specs.Syntax.{Term}
-use Rattle.walk.specs.Reader.{Read, got, bad, Reader, read-on, _>>=_, ok, byte, meant, one-of, k-u, k-v, k-nat, k-zero, k-pi, k-lam, k-app, k-path, k-plam, k-papp, k-0, k-1, k-dim, k-neg, k-meet, k-join, kinds, ikinds, read-interval, read-term}
+use Rattle.walk.specs.Reader.{Read, got, bad, Reader, read-on, _>>=_, ok, byte, meant, one-of, k-u, k-v, k-nat, k-zero, k-pi, k-lam, k-app, k-path, k-plam, k-papp, k-sigma, k-pair, k-fst, k-snd, k-0, k-1, k-dim, k-neg, k-meet, k-join, kinds, ikinds, read-interval, read-term}
 use Rattle.syntax.specs.Parts.{Part, index, term, interval, parts, iparts, of-kind, after}
 use Rattle.syntax.specs.Told.{next-of}
 use Rattle.syntax.specs.declared.scan.Next.{Next}
@@ -117,6 +117,10 @@ a-term (ℕ.suc f) = node kinds parts term (λ b. refl) (λ k. elim k [
   | k-path ↦ then (a-term f) (λ a. then (a-term f) (λ b. then (a-term f) (λ c. done _)))
   | k-plam ↦ then (a-term f) (λ a. then (a-term f) (λ b. done _))
   | k-papp ↦ then (a-term f) (λ a. then (an-interval f) (λ b. done _))
+  | k-sigma ↦ then (a-term f) (λ a. then (a-term f) (λ b. done _))
+  | k-pair ↦ then (a-term f) (λ a. then (a-term f) (λ b. then (a-term f) (λ c. done _)))
+  | k-fst ↦ then (a-term f) (λ a. done _)
+  | k-snd ↦ then (a-term f) (λ a. done _)
   -- end of kinds of a term
 ])
 

@@ -8,7 +8,7 @@ use native.Mathlib.Omega.{arith}
 use lib.Dec.{leb}
 use lib.ListN.{length, getD, drop, length-drop}
 use lib.Seq.{drop-drop}
-use Rattle.walk.specs.Reader.{Read, got, bad, Reader, read-on, _>>=_, ok, byte, meant, one-of, k-u, k-v, k-nat, k-zero, k-pi, k-lam, k-app, k-path, k-plam, k-papp, k-0, k-1, k-dim, k-neg, k-meet, k-join, kinds, ikinds, codes, terms-of, read-interval, read-term, read-terms, read-head, Call, read-call, read-calls, read-limit, read-run}
+use Rattle.walk.specs.Reader.{Read, got, bad, Reader, read-on, _>>=_, ok, byte, meant, one-of, k-u, k-v, k-nat, k-zero, k-pi, k-lam, k-app, k-path, k-plam, k-papp, k-sigma, k-pair, k-fst, k-snd, k-0, k-1, k-dim, k-neg, k-meet, k-join, kinds, ikinds, codes, terms-of, read-interval, read-term, read-terms, read-head, Call, read-call, read-calls, read-limit, read-run}
 
 -- The rest starts at the end, which lies at least n bytes on and inside the run.
 pub record Stops (bytes : List ℕ) (start n : ℕ) (rest : List ℕ) (end : ℕ) : Type 0 where
@@ -111,6 +111,10 @@ goes-term (ℕ.suc f) = goes-then {k = 0} (goes-one kinds) (λ k. elim k [
   | k-path ↦ goes-part (goes-term f) (λ a. goes-part (goes-term f) (λ b. goes-part (goes-term f) (λ c. goes-ok _)))
   | k-plam ↦ goes-part (goes-term f) (λ a. goes-part (goes-term f) (λ b. goes-ok _))
   | k-papp ↦ goes-part (goes-term f) (λ a. goes-part (goes-interval f) (λ b. goes-ok _))
+  | k-sigma ↦ goes-part (goes-term f) (λ a. goes-part (goes-term f) (λ b. goes-ok _))
+  | k-pair ↦ goes-part (goes-term f) (λ a. goes-part (goes-term f) (λ b. goes-part (goes-term f) (λ c. goes-ok _)))
+  | k-fst ↦ goes-part (goes-term f) (λ a. goes-ok _)
+  | k-snd ↦ goes-part (goes-term f) (λ a. goes-ok _)
   -- end of kinds of a term
 ])
 

@@ -7,8 +7,8 @@ use mathlib.Core.Bool.{Bool, true, false, _||_}
 use native.Mathlib.Omega.{arith}
 use borrow.Author.Tests.{ltb-false}
 use lib.Dec.{ltb, leb}
-use Rattle.walk.specs.Syntax.{Interval, I0, I1, Dim, Neg, Meet, Join, Term, Universe, Var, Nat, Zero, Pi, Lam, App, Path, PathLam, PathApp}
-use Rattle.walk.specs.Reader.{got, Reader, read-on, _>>=_, ok, byte, one-of, k-u, k-v, k-nat, k-zero, k-pi, k-lam, k-app, k-path, k-plam, k-papp, k-0, k-1, k-dim, k-neg, k-meet, k-join, kinds, ikinds, read-interval, read-term}
+use Rattle.walk.specs.Syntax.{Interval, I0, I1, Dim, Neg, Meet, Join, Term, Universe, Var, Nat, Zero, Pi, Lam, App, Path, PathLam, PathApp, Sigma, Pair, Fst, Snd}
+use Rattle.walk.specs.Reader.{got, Reader, read-on, _>>=_, ok, byte, one-of, k-u, k-v, k-nat, k-zero, k-pi, k-lam, k-app, k-path, k-plam, k-papp, k-sigma, k-pair, k-fst, k-snd, k-0, k-1, k-dim, k-neg, k-meet, k-join, kinds, ikinds, read-interval, read-term}
 use Rattle.walk.specs.Limits.{Sized, fits, size-over, index-over, size-on, node, size-interval, size-term}
 use Rattle.syntax.specs.Calls.{twice, size-first}
 
@@ -38,6 +38,10 @@ Height (suc g) (App a b) = Height g a × Height g b
 Height (suc g) (Path a b c) = Height g a × Height g b × Height g c
 Height (suc g) (PathLam a b) = Height g a × Height g b
 Height (suc g) (PathApp a b) = Height g a × IHeight g b
+Height (suc g) (Sigma a b) = Height g a × Height g b
+Height (suc g) (Pair a b c) = Height g a × Height g b × Height g c
+Height (suc g) (Fst a) = Height g a
+Height (suc g) (Snd a) = Height g a
 
 -- end of height of a term
 
@@ -115,6 +119,10 @@ keeps-term (suc f) (suc g) =
       | k-path ↦ keeps-then part (λ a. makes-then makes-any (λ b u. makes-then makes-any (λ c u. makes-ok _ (λ h. h .0)))) (λ a. keeps-then part (λ b. makes-then makes-any (λ c u. makes-ok _ (λ h. h .1))) (λ b. last (Path a b) part (λ c h. h .2)))
       | k-plam ↦ keeps-then part (λ a. makes-then makes-any (λ b u. makes-ok _ (λ h. h .0))) (λ a. last (PathLam a) part (λ b h. h .1))
       | k-papp ↦ keeps-then part (λ a. makes-then makes-any (λ b u. makes-ok _ (λ h. h .0))) (λ a. last (PathApp a) (keeps-interval f g) (λ b h. h .1))
+      | k-sigma ↦ keeps-then part (λ a. makes-then makes-any (λ b u. makes-ok _ (λ h. h .0))) (λ a. last (Sigma a) part (λ b h. h .1))
+      | k-pair ↦ keeps-then part (λ a. makes-then makes-any (λ b u. makes-then makes-any (λ c u. makes-ok _ (λ h. h .0)))) (λ a. keeps-then part (λ b. makes-then makes-any (λ c u. makes-ok _ (λ h. h .1))) (λ b. last (Pair a b) part (λ c h. h .2)))
+      | k-fst ↦ last Fst part (λ a h. h)
+      | k-snd ↦ last Snd part (λ a h. h)
       -- end of kinds of a term
     ])
 
@@ -177,6 +185,10 @@ depth-term (App a b) depth nodes e = one-part depth nodes _ e .0
 depth-term (Path a b c) depth nodes e = one-part depth nodes _ e .0
 depth-term (PathLam a b) depth nodes e = one-part depth nodes _ e .0
 depth-term (PathApp a b) depth nodes e = one-part depth nodes _ e .0
+depth-term (Sigma a b) depth nodes e = one-part depth nodes _ e .0
+depth-term (Pair a b c) depth nodes e = one-part depth nodes _ e .0
+depth-term (Fst a) depth nodes e = one-part depth nodes _ e .0
+depth-term (Snd a) depth nodes e = one-part depth nodes _ e .0
 
 -- end of depth of a term
 
@@ -213,6 +225,17 @@ fits-term (PathApp a b) (suc g) depth nodes e l =
     let w = one-part depth nodes _ e .1 in
     let v = size-first (size-term a (depth + 1) (w .0)) (size-interval b (depth + 1)) (w .1) in
     (fits-term a g (depth + 1) _ (v .1) (omega arith), fits-interval b g (depth + 1) _ (v .2) (omega arith))
+fits-term (Sigma a b) (suc g) depth nodes e l =
+    let w = one-part depth nodes _ e .1 in
+    let v = size-first (size-term a (depth + 1) (w .0)) (size-term b (depth + 1)) (w .1) in
+    (fits-term a g (depth + 1) _ (v .1) (omega arith), fits-term b g (depth + 1) _ (v .2) (omega arith))
+fits-term (Pair a b c) (suc g) depth nodes e l =
+    let w = one-part depth nodes _ e .1 in
+    let v = size-first (size-term a (depth + 1) (w .0)) (λ n. size-on (size-term b (depth + 1) n) (size-term c (depth + 1))) (w .1) in
+    let u = size-first (size-term b (depth + 1) (v .0)) (size-term c (depth + 1)) (v .2) in
+    (fits-term a g (depth + 1) _ (v .1) (omega arith), fits-term b g (depth + 1) _ (u .1) (omega arith), fits-term c g (depth + 1) _ (u .2) (omega arith))
+fits-term (Fst a) (suc g) depth nodes e l = fits-term a g (depth + 1) _ (one-part depth nodes _ e .1 .1) (omega arith)
+fits-term (Snd a) (suc g) depth nodes e l = fits-term a g (depth + 1) _ (one-part depth nodes _ e .1 .1) (omega arith)
 
 -- end of a term that fits
 

@@ -5,7 +5,7 @@ use mathlib.Core.List.{List, [], _∷_, _++_}
 use mathlib.Core.Option.{Option, none, some}
 use native.Mathlib.Omega.{arith}
 use lib.ListN.{getD, replicate}
-use Rattle.walk.specs.Reader.{Kind, k-u, k-v, k-nat, k-zero, k-pi, k-lam, k-app, k-path, k-plam, k-papp, IKind, k-0, k-1, k-dim, k-neg, k-meet, k-join, Code, kinds, ikinds, codes}
+use Rattle.walk.specs.Reader.{Kind, k-u, k-v, k-nat, k-zero, k-pi, k-lam, k-app, k-path, k-plam, k-papp, k-sigma, k-pair, k-fst, k-snd, IKind, k-0, k-1, k-dim, k-neg, k-meet, k-join, Code, kinds, ikinds, codes}
 use Rattle.syntax.specs.Told.{code-number}
 
 pub no-some : {A : Type 0} {a : A} → none ≡ some a → ⊥
@@ -42,6 +42,10 @@ kind-byte k-app = 7
 kind-byte k-path = 8
 kind-byte k-plam = 9
 kind-byte k-papp = 10
+kind-byte k-sigma = 11
+kind-byte k-pair = 12
+kind-byte k-fst = 13
+kind-byte k-snd = 14
 
 -- end of bytes of term kinds
 
@@ -61,7 +65,7 @@ kind-is b k e = let f = found {byte = kind-byte} table b k e in omega arith
   where
     table : Table kind-byte 0 kinds
     -- written by tools/written.py: table of term kinds
-    table = blank (entry refl (entry refl (entry refl (entry refl (entry refl (entry refl (entry refl (entry refl (entry refl (entry refl end))))))))))
+    table = blank (entry refl (entry refl (entry refl (entry refl (entry refl (entry refl (entry refl (entry refl (entry refl (entry refl (entry refl (entry refl (entry refl (entry refl end))))))))))))))
     -- end of table of term kinds
 
 pub ikind-is : (b : ℕ) (k : IKind) → getD ikinds b none ≡ some k → b ≡ ikind-byte k

@@ -8,8 +8,8 @@ use native.Mathlib.Omega.{arith}
 use native.Mathlib.Numerals.{add-one}
 use lib.ListN.{length, getD, drop, drop-of-length-le}
 use lib.Seq.{drop-cons}
-use Rattle.walk.specs.Syntax.{Interval, I0, I1, Dim, Neg, Meet, Join, Term, Universe, Var, Nat, Zero, Pi, Lam, App, Path, PathLam, PathApp}
-use Rattle.walk.specs.Reader.{got, bad, Reader, read-on, _>>=_, ok, byte, meant, one-of, Kind, k-u, k-v, k-nat, k-zero, k-pi, k-lam, k-app, k-path, k-plam, k-papp, IKind, k-0, k-1, k-dim, k-neg, k-meet, k-join, kinds, ikinds, read-interval, read-term}
+use Rattle.walk.specs.Syntax.{Interval, I0, I1, Dim, Neg, Meet, Join, Term, Universe, Var, Nat, Zero, Pi, Lam, App, Path, PathLam, PathApp, Sigma, Pair, Fst, Snd}
+use Rattle.walk.specs.Reader.{got, bad, Reader, read-on, _>>=_, ok, byte, meant, one-of, Kind, k-u, k-v, k-nat, k-zero, k-pi, k-lam, k-app, k-path, k-plam, k-papp, k-sigma, k-pair, k-fst, k-snd, IKind, k-0, k-1, k-dim, k-neg, k-meet, k-join, kinds, ikinds, read-interval, read-term}
 use Rattle.syntax.specs.Ends.{Stops, Goes, ends}
 use Rattle.syntax.specs.Calls.{twice}
 
@@ -37,6 +37,10 @@ term-of f k-app = read-term f >>= λ a. read-term f >>= λ b. ok (App a b)
 term-of f k-path = read-term f >>= λ a. read-term f >>= λ b. read-term f >>= λ c. ok (Path a b c)
 term-of f k-plam = read-term f >>= λ a. read-term f >>= λ b. ok (PathLam a b)
 term-of f k-papp = read-term f >>= λ a. read-interval f >>= λ b. ok (PathApp a b)
+term-of f k-sigma = read-term f >>= λ a. read-term f >>= λ b. ok (Sigma a b)
+term-of f k-pair = read-term f >>= λ a. read-term f >>= λ b. read-term f >>= λ c. ok (Pair a b c)
+term-of f k-fst = read-term f >>= λ a. ok (Fst a)
+term-of f k-snd = read-term f >>= λ a. ok (Snd a)
 
 -- end of reader of a term
 
@@ -88,6 +92,10 @@ term-read f bs at = ap (read-on (one-of kinds bs at)) (fun-ext (λ k. elim k [
   | k-path ↦ refl
   | k-plam ↦ refl
   | k-papp ↦ refl
+  | k-sigma ↦ refl
+  | k-pair ↦ refl
+  | k-fst ↦ refl
+  | k-snd ↦ refl
   -- end of kinds of a term
 ]))
 

@@ -5,7 +5,7 @@ use mathlib.Core.List.{List, [], _∷_}
 use mathlib.Core.Option.{Option, none, some}
 use lib.ListN.{getD, set}
 use Rattle.walk.specs.Refusal as Refusal
-use Rattle.walk.specs.Reader.{Read, got, bad, Kind, k-u, k-v, k-nat, k-zero, k-pi, k-lam, k-app, k-path, k-plam, k-papp, IKind, k-0, k-1, k-dim, k-neg, k-meet, k-join, kinds, ikinds}
+use Rattle.walk.specs.Reader.{Read, got, bad, Kind, k-u, k-v, k-nat, k-zero, k-pi, k-lam, k-app, k-path, k-plam, k-papp, k-sigma, k-pair, k-fst, k-snd, IKind, k-0, k-1, k-dim, k-neg, k-meet, k-join, kinds, ikinds}
 use Rattle.walk.specs.Limits.{Sized, fits, scope-over, size-over, index-over}
 use Rattle.syntax.specs.declared.parts.Parts.{Parts}
 use Rattle.syntax.specs.declared.limits.Counted.{Counted}
@@ -29,6 +29,10 @@ parts k-app = term ∷ term ∷ []
 parts k-path = term ∷ term ∷ term ∷ []
 parts k-plam = term ∷ term ∷ []
 parts k-papp = term ∷ interval ∷ []
+parts k-sigma = term ∷ term ∷ []
+parts k-pair = term ∷ term ∷ term ∷ []
+parts k-fst = term ∷ []
+parts k-snd = term ∷ []
 
 -- end of parts of a term kind
 

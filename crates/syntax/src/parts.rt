@@ -91,6 +91,10 @@ fn of_term(kind: u8) -> Parts
         8 => three(TERM, TERM, TERM),
         9 => two(TERM, TERM),
         10 => two(TERM, INTERVAL),
+        11 => two(TERM, TERM),
+        12 => three(TERM, TERM, TERM),
+        13 => one(TERM),
+        14 => one(TERM),
         // end of parts of a term
         _ => refused(),
     }

@@ -17,7 +17,7 @@ use Rattle.walk.specs.Reader.{Code}
 use Rattle.walk.specs.Run.{Result, Answer}
 use lib.Dec.{eqb·suc-zero}
 use Rattle.text.specs.Repeats.{answer-word, code}
-use Rattle.text.specs.Said.{spaced, all-texts, interval-text, quote-text, context-text, argument-text, judgment-text, Part-in, Interval-cell, Quote-cell, Context-cell, Argument-word, word-number, word-term, word-interval, word-context, Arguments-in, no-more, and-then, commas, refs-text, row-text, code-number, result-text, accepted-row, call-text, Result-in, of-context, of-universe, of-infer, of-check, of-normalise, of-equal, Ended, accepted, refused, Call-in, Refs-in, no-refs, and-ref, Row-in, cell-0, cell-1, cell-dim, cell-neg, cell-meet, cell-join, cell-u, cell-v, cell-nat, cell-zero, cell-pi, cell-lam, cell-app, cell-path, cell-plam, cell-papp, cell-nil, cell-cons}
+use Rattle.text.specs.Said.{spaced, all-texts, interval-text, quote-text, context-text, argument-text, judgment-text, Part-in, Interval-cell, Quote-cell, Context-cell, Argument-word, word-number, word-term, word-interval, word-context, Arguments-in, no-more, and-then, commas, refs-text, row-text, code-number, result-text, accepted-row, call-text, Result-in, of-context, of-universe, of-infer, of-check, of-normalise, of-equal, Ended, accepted, refused, Call-in, Refs-in, no-refs, and-ref, Row-in, cell-0, cell-1, cell-dim, cell-neg, cell-meet, cell-join, cell-u, cell-v, cell-nat, cell-zero, cell-pi, cell-lam, cell-app, cell-path, cell-plam, cell-papp, cell-sigma, cell-pair, cell-fst, cell-snd, cell-nil, cell-cons}
 use Rattle.text.specs.Quoted.{lower-yes, quote-node}
 
 -- Absent parts leave nothing before the end.
@@ -59,6 +59,10 @@ quote-said (cell-app {x = x} {y = y} k p1 h1 p2 h2) = rw (quote-node, k, part-sa
 quote-said (cell-path {x = x} {y = y} {z = z} k p1 h1 p2 h2 p3 h3) = rw (quote-node, k, part-said _ p1 (quote-said h1), part-said _ p2 (quote-said h2), part-said _ p3 (quote-said h3))
 quote-said (cell-plam {y = y} k p2 h2) = rw (quote-node, k, part-said _ p2 (quote-said h2)) (close-2 (spaced (bytes "(plam") (quote-text y ∷ [])))
 quote-said (cell-papp {x = x} {y = y} k p1 h1 p2 h2) = rw (quote-node, k, part-said _ p1 (quote-said h1), part-said _ p2 (interval-said h2)) (close-1 (spaced (bytes "(papp") (quote-text x ∷ interval-text y ∷ [])))
+quote-said (cell-sigma {x = x} {y = y} k p1 h1 p2 h2) = rw (quote-node, k, part-said _ p1 (quote-said h1), part-said _ p2 (quote-said h2)) (close-1 (spaced (bytes "(sigma") (quote-text x ∷ quote-text y ∷ [])))
+quote-said (cell-pair {y = y} {z = z} k p2 h2 p3 h3) = rw (quote-node, k, part-said _ p2 (quote-said h2), part-said _ p3 (quote-said h3)) (close-1 (spaced (bytes "(pair") (quote-text y ∷ quote-text z ∷ [])))
+quote-said (cell-fst {x = x} k p1 h1) = rw (quote-node, k, part-said _ p1 (quote-said h1)) (close-2 (spaced (bytes "(fst") (quote-text x ∷ [])))
+quote-said (cell-snd {x = x} k p1 h1) = rw (quote-node, k, part-said _ p1 (quote-said h1)) (close-2 (spaced (bytes "(snd") (quote-text x ∷ [])))
 
 -- end of text of a quote
 

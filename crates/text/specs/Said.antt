@@ -3,7 +3,7 @@
 use Prim.Native.Nat.{ℕ, suc, _+_, _<_, _≤_}
 use mathlib.Core.Path.{_≡_}
 use mathlib.Core.List.{List, [], _∷_, _++_}
-use Rattle.walk.specs.Syntax.{Term, quote, Interval, I0, I1, Dim, Neg, Meet, Join, Quote, u, v, nat, zero, pi, lam, app, path, plam, papp, Quotes, nil, cons}
+use Rattle.walk.specs.Syntax.{Term, quote, Interval, I0, I1, Dim, Neg, Meet, Join, Quote, u, v, nat, zero, pi, lam, app, path, plam, papp, sigma, pair, fst, snd, Quotes, nil, cons}
 use Rattle.walk.specs.Judgment.{Judgment, kind, Argument, arguments}
 use Rattle.walk.specs.Judgment as J
 use Rattle.walk.specs.State.{Row}
@@ -47,6 +47,10 @@ quote-text (app x y) = called (bytes "app") (quote-text x ∷ quote-text y ∷ [
 quote-text (path x y z) = called (bytes "path") (quote-text x ∷ quote-text y ∷ quote-text z ∷ [])
 quote-text (plam y) = called (bytes "plam") (quote-text y ∷ [])
 quote-text (papp x y) = called (bytes "papp") (quote-text x ∷ interval-text y ∷ [])
+quote-text (sigma x y) = called (bytes "sigma") (quote-text x ∷ quote-text y ∷ [])
+quote-text (pair y z) = called (bytes "pair") (quote-text y ∷ quote-text z ∷ [])
+quote-text (fst x) = called (bytes "fst") (quote-text x ∷ [])
+quote-text (snd x) = called (bytes "snd") (quote-text x ∷ [])
 
 -- end of text of a quote
 
@@ -96,6 +100,10 @@ pub data Quote-cell (C : List ℕ) : ℕ → Quote → Type 0 where
   cell-path : {i a b c : ℕ} {x : Quote} {y : Quote} {z : Quote} → cell-word C i 0 ≡ 8 → Part-in C i 1 a → Quote-cell C a x → Part-in C i 2 b → Quote-cell C b y → Part-in C i 3 c → Quote-cell C c z → Quote-cell C i (path x y z)
   cell-plam : {i b : ℕ} {y : Quote} → cell-word C i 0 ≡ 9 → Part-in C i 2 b → Quote-cell C b y → Quote-cell C i (plam y)
   cell-papp : {i a b : ℕ} {x : Quote} {y : Interval} → cell-word C i 0 ≡ 10 → Part-in C i 1 a → Quote-cell C a x → Part-in C i 2 b → Interval-cell C b y → Quote-cell C i (papp x y)
+  cell-sigma : {i a b : ℕ} {x : Quote} {y : Quote} → cell-word C i 0 ≡ 11 → Part-in C i 1 a → Quote-cell C a x → Part-in C i 2 b → Quote-cell C b y → Quote-cell C i (sigma x y)
+  cell-pair : {i b c : ℕ} {y : Quote} {z : Quote} → cell-word C i 0 ≡ 12 → Part-in C i 2 b → Quote-cell C b y → Part-in C i 3 c → Quote-cell C c z → Quote-cell C i (pair y z)
+  cell-fst : {i a : ℕ} {x : Quote} → cell-word C i 0 ≡ 13 → Part-in C i 1 a → Quote-cell C a x → Quote-cell C i (fst x)
+  cell-snd : {i a : ℕ} {x : Quote} → cell-word C i 0 ≡ 14 → Part-in C i 1 a → Quote-cell C a x → Quote-cell C i (snd x)
   -- end of cell of a quote
 
 pub data Context-cell (C : List ℕ) : ℕ → Quotes → Type 0 where

@@ -4,7 +4,7 @@ use mathlib.Core.List.{List, [], _∷_, _++_}
 use mathlib.Core.Bool.{true, false, _||_}
 use lib.Dec.{ltb, leb}
 use lib.ListN.{length}
-use Rattle.walk.specs.Syntax.{Interval, I0, I1, Dim, Neg, Meet, Join, Term, Universe, Var, Nat, Zero, Pi, Lam, App, Path, PathLam, PathApp}
+use Rattle.walk.specs.Syntax.{Interval, I0, I1, Dim, Neg, Meet, Join, Term, Universe, Var, Nat, Zero, Pi, Lam, App, Path, PathLam, PathApp, Sigma, Pair, Fst, Snd}
 use Rattle.walk.specs.Reader.{Call}
 
 -- The nodes counted so far, or the refusal: 5, 6 or 7.
@@ -50,6 +50,10 @@ size-term (App a b) depth nodes = size-on (node depth nodes 0) λ n. size-on (si
 size-term (Path a b c) depth nodes = size-on (node depth nodes 0) λ n. size-on (size-term a (depth + 1) n) λ n. size-on (size-term b (depth + 1) n) (size-term c (depth + 1))
 size-term (PathLam a b) depth nodes = size-on (node depth nodes 0) λ n. size-on (size-term a (depth + 1) n) (size-term b (depth + 1))
 size-term (PathApp a b) depth nodes = size-on (node depth nodes 0) λ n. size-on (size-term a (depth + 1) n) (size-interval b (depth + 1))
+size-term (Sigma a b) depth nodes = size-on (node depth nodes 0) λ n. size-on (size-term a (depth + 1) n) (size-term b (depth + 1))
+size-term (Pair a b c) depth nodes = size-on (node depth nodes 0) λ n. size-on (size-term a (depth + 1) n) λ n. size-on (size-term b (depth + 1) n) (size-term c (depth + 1))
+size-term (Fst a) depth nodes = size-on (node depth nodes 0) (size-term a (depth + 1))
+size-term (Snd a) depth nodes = size-on (node depth nodes 0) (size-term a (depth + 1))
 
 -- end of size of a term
 

@@ -5,7 +5,7 @@ use mathlib.Core.Option.{Option, none, some}
 use mathlib.Core.Bool.{true, false, _&&_}
 use lib.Dec.{leb}
 use lib.ListN.{length, getD, replicate}
-use Rattle.walk.specs.Syntax.{Interval, I0, I1, Dim, Neg, Meet, Join, Term, Universe, Var, Nat, Zero, Pi, Lam, App, Path, PathLam, PathApp}
+use Rattle.walk.specs.Syntax.{Interval, I0, I1, Dim, Neg, Meet, Join, Term, Universe, Var, Nat, Zero, Pi, Lam, App, Path, PathLam, PathApp, Sigma, Pair, Fst, Snd}
 
 -- What a reader gives: a value with the bytes that are left and the offset of the first of them, or the place of the fault.
 pub data Read (A : Type 0) : Type 0 where
@@ -43,14 +43,14 @@ one-of table (b ∷ bs) at = meant (getD table b none) bs at
 -- Kinds of terms and of intervals, and a table of each: a kind stands at its byte.
 -- written by tools/written.py: kinds
 pub data Kind : Type 0 where
-  k-u k-v k-nat k-zero k-pi k-lam k-app k-path k-plam k-papp : Kind
+  k-u k-v k-nat k-zero k-pi k-lam k-app k-path k-plam k-papp k-sigma k-pair k-fst k-snd : Kind
   deriving Discrete as Kind-discrete
 
 pub data IKind : Type 0 where
   k-0 k-1 k-dim k-neg k-meet k-join : IKind
 
 abbrev pub kinds : List (Option Kind)
-kinds = none ∷ some k-u ∷ some k-v ∷ some k-nat ∷ some k-zero ∷ some k-pi ∷ some k-lam ∷ some k-app ∷ some k-path ∷ some k-plam ∷ some k-papp ∷ []
+kinds = none ∷ some k-u ∷ some k-v ∷ some k-nat ∷ some k-zero ∷ some k-pi ∷ some k-lam ∷ some k-app ∷ some k-path ∷ some k-plam ∷ some k-papp ∷ some k-sigma ∷ some k-pair ∷ some k-fst ∷ some k-snd ∷ []
 
 abbrev pub ikinds : List (Option IKind)
 ikinds = replicate 16 none ++ some k-0 ∷ some k-1 ∷ some k-dim ∷ some k-neg ∷ some k-meet ∷ some k-join ∷ []
@@ -105,6 +105,10 @@ read-term (ℕ.suc f) = one-of kinds >>= λ k. elim k [
   | k-path ↦ read-term f >>= λ a. read-term f >>= λ b. read-term f >>= λ c. ok (Path a b c)
   | k-plam ↦ read-term f >>= λ a. read-term f >>= λ b. ok (PathLam a b)
   | k-papp ↦ read-term f >>= λ a. read-interval f >>= λ b. ok (PathApp a b)
+  | k-sigma ↦ read-term f >>= λ a. read-term f >>= λ b. ok (Sigma a b)
+  | k-pair ↦ read-term f >>= λ a. read-term f >>= λ b. read-term f >>= λ c. ok (Pair a b c)
+  | k-fst ↦ read-term f >>= λ a. ok (Fst a)
+  | k-snd ↦ read-term f >>= λ a. ok (Snd a)
   -- end of reading a term
 ]
 

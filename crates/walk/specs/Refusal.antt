@@ -87,3 +87,11 @@ nesting = 19
 -- a new cell is needed, and none is left, or 4,294,967,295 are used
 abbrev pub cells : ℕ
 cells = 20
+
+-- the subject of a projection has no sigma type after `expose`
+abbrev pub no-sigma : ℕ
+no-sigma = 21
+
+-- the annotation of a pair is not written as a sigma
+abbrev pub annotation : ℕ
+annotation = 22

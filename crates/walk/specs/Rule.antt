@@ -291,6 +291,72 @@ eq·p0 = 93
 abbrev pub eq·p1 : ℕ
 eq·p1 = 94
 
+abbrev pub type·sigma : ℕ
+type·sigma = 95
+
+abbrev pub type·pair : ℕ
+type·pair = 96
+
+abbrev pub type·fst : ℕ
+type·fst = 97
+
+abbrev pub type·snd : ℕ
+type·snd = 98
+
+abbrev pub eq·fst-beta : ℕ
+eq·fst-beta = 99
+
+abbrev pub eq·snd-beta : ℕ
+eq·snd-beta = 100
+
+abbrev pub shift·sigma : ℕ
+shift·sigma = 101
+
+abbrev pub shift·pair : ℕ
+shift·pair = 102
+
+abbrev pub shift·fst : ℕ
+shift·fst = 103
+
+abbrev pub shift·snd : ℕ
+shift·snd = 104
+
+abbrev pub subst·sigma : ℕ
+subst·sigma = 105
+
+abbrev pub subst·pair : ℕ
+subst·pair = 106
+
+abbrev pub subst·fst : ℕ
+subst·fst = 107
+
+abbrev pub subst·snd : ℕ
+subst·snd = 108
+
+abbrev pub dshift·sigma : ℕ
+dshift·sigma = 109
+
+abbrev pub dshift·pair : ℕ
+dshift·pair = 110
+
+abbrev pub dshift·fst : ℕ
+dshift·fst = 111
+
+abbrev pub dshift·snd : ℕ
+dshift·snd = 112
+
+abbrev pub dsubst·sigma : ℕ
+dsubst·sigma = 113
+
+abbrev pub dsubst·pair : ℕ
+dsubst·pair = 114
+
+abbrev pub dsubst·fst : ℕ
+dsubst·fst = 115
+
+abbrev pub dsubst·snd : ℕ
+dsubst·snd = 116
+
 -- The judgments by number, as Judgment's `kind` has them.
 abbrev ctx : ℕ
 ctx = 0
@@ -444,11 +510,33 @@ rules =
     (eq·pbeta named "eq.pbeta" concludes eq) ∷
     (eq·p0 named "eq.p0" concludes eq) ∷
     (eq·p1 named "eq.p1" concludes eq) ∷
+    (type·sigma named "type.sigma" concludes has) ∷
+    (type·pair named "type.pair" concludes has) ∷
+    (type·fst named "type.fst" concludes has) ∷
+    (type·snd named "type.snd" concludes has) ∷
+    (eq·fst-beta named "eq.fst-beta" concludes eq) ∷
+    (eq·snd-beta named "eq.snd-beta" concludes eq) ∷
+    (shift·sigma named "shift.sigma" concludes shift) ∷
+    (shift·pair named "shift.pair" concludes shift) ∷
+    (shift·fst named "shift.fst" concludes shift) ∷
+    (shift·snd named "shift.snd" concludes shift) ∷
+    (subst·sigma named "subst.sigma" concludes subst) ∷
+    (subst·pair named "subst.pair" concludes subst) ∷
+    (subst·fst named "subst.fst" concludes subst) ∷
+    (subst·snd named "subst.snd" concludes subst) ∷
+    (dshift·sigma named "dshift.sigma" concludes dshift) ∷
+    (dshift·pair named "dshift.pair" concludes dshift) ∷
+    (dshift·fst named "dshift.fst" concludes dshift) ∷
+    (dshift·snd named "dshift.snd" concludes dshift) ∷
+    (dsubst·sigma named "dsubst.sigma" concludes dsubst) ∷
+    (dsubst·pair named "dsubst.pair" concludes dsubst) ∷
+    (dsubst·fst named "dsubst.fst" concludes dsubst) ∷
+    (dsubst·snd named "dsubst.snd" concludes dsubst) ∷
     []
 
 -- How many there are.
 abbrev pub rule-count : ℕ
-rule-count = 95
+rule-count = 117
 
 -- A number that is no rule has an empty name, and concludes a kind that no judgment has.
 abbrev pub no-rule : Named

@@ -1,5 +1,5 @@
 -- What follows by a rule: `Follows n js j` says that rule n takes the premises js, in this order, to j.
--- One constructor for each of the 95 rules.
+-- One constructor for each rule.
 --
 -- Each group below says which rules of CCHM it is, and what it adds; or that it is the source's alone. Figure 1 of CCHM has the rules of
 -- its section 2, the basic type theory, and Figure 2 those of its section 3, path types. What differs throughout is not said again at each
@@ -7,7 +7,7 @@
 -- (docs/DIFFERENCES.md, "From CCHM").
 use Prim.Native.Nat.{ℕ, suc}
 use mathlib.Core.List.{List, [], _∷_}
-use Rattle.walk.specs.Syntax.{Interval, I0, I1, Dim, Neg, Meet, Join, Quote, u, v, nat, zero, pi, lam, app, path, plam, papp, Quotes, nil, cons}
+use Rattle.walk.specs.Syntax.{Interval, I0, I1, Dim, Neg, Meet, Join, Quote, u, v, nat, zero, pi, lam, app, path, plam, papp, sigma, pair, fst, snd, Quotes, nil, cons}
 use Rattle.walk.specs.Judgment.{Judgment, ctx, dshiftctx, lookup, lt, le, max, interval, ishift, isubst, shift, subst, dshift, dsubst, has, eq}
 use Rattle.walk.specs.Rule as R
 
@@ -267,3 +267,70 @@ pub data Follows : ℕ → List Judgment → Judgment → Type 0 where
       ∷ has d g c B
       ∷ [])
       (eq d g (papp p I1) c B)
+  -- sigma types, after the others
+  -- sigma: pair types of Figure 1. Added: the level, by max
+  by·type·sigma :
+      {d i j k : ℕ} {g : Quotes} {A B : Quote} →
+      Follows R.type·sigma
+      (has d g A (u i)
+      ∷ has d (cons A g) B (u j)
+      ∷ max i j k
+      ∷ [])
+      (has d g (sigma A B) (u k))
+  -- pair: pairing of Figure 1. Added: that both types are formed, and that the second part's is, at B's level
+  by·type·pair :
+      {d i j : ℕ} {g : Quotes} {A B a b B′ : Quote} →
+      Follows R.type·pair
+      (has d g A (u i)
+      ∷ has d (cons A g) B (u j)
+      ∷ has d g a A
+      ∷ subst B 0 a B′
+      ∷ has d g B′ (u j)
+      ∷ has d g b B′
+      ∷ [])
+      (has d g (pair a b) (sigma A B))
+  -- fst, snd: the projections of Figure 1, B(x/p.1) by a premise. Added: that the type is formed
+  by·type·fst : {d l : ℕ} {g : Quotes} {p A B : Quote} → Follows R.type·fst (has d g p (sigma A B) ∷ has d g A (u l) ∷ []) (has d g (fst p) A)
+  by·type·snd :
+      {d l : ℕ} {g : Quotes} {p A B B′ : Quote} →
+      Follows R.type·snd
+      (has d g p (sigma A B)
+      ∷ subst B 0 (fst p) B′
+      ∷ has d g B′ (u l)
+      ∷ [])
+      (has d g (snd p) B′)
+  -- fst-beta, snd-beta: the equations of Figure 1 for the projections of a pair. Added: that the part has the type; A and B are those of a
+  -- type that the pair has
+  by·eq·fst-beta : {d : ℕ} {g : Quotes} {a b A B : Quote} → Follows R.eq·fst-beta (has d g (pair a b) (sigma A B) ∷ has d g a A ∷ []) (eq d g (fst (pair a b)) a A)
+  by·eq·snd-beta :
+      {d : ℕ} {g : Quotes} {a b A B B′ : Quote} →
+      Follows R.eq·snd-beta
+      (has d g (pair a b) (sigma A B)
+      ∷ subst B 0 (fst (pair a b)) B′
+      ∷ has d g b B′
+      ∷ [])
+      (eq d g (snd (pair a b)) b B′)
+  -- the transforms of these kinds, as of the others
+  by·shift·sigma : {a a′ b b′ : Quote} {k : ℕ} → Follows R.shift·sigma (shift a k a′ ∷ shift b (suc k) b′ ∷ []) (shift (sigma a b) k (sigma a′ b′))
+  by·shift·pair : {a a′ b b′ : Quote} {k : ℕ} → Follows R.shift·pair (shift a k a′ ∷ shift b k b′ ∷ []) (shift (pair a b) k (pair a′ b′))
+  by·shift·fst : {p p′ : Quote} {k : ℕ} → Follows R.shift·fst (shift p k p′ ∷ []) (shift (fst p) k (fst p′))
+  by·shift·snd : {p p′ : Quote} {k : ℕ} → Follows R.shift·snd (shift p k p′ ∷ []) (shift (snd p) k (snd p′))
+  by·subst·sigma :
+      {a x a′ x′ b b′ : Quote} {k : ℕ} →
+      Follows R.subst·sigma
+      (subst a k x a′
+      ∷ shift x 0 x′
+      ∷ subst b (suc k) x′ b′
+      ∷ [])
+      (subst (sigma a b) k x (sigma a′ b′))
+  by·subst·pair : {a x a′ b b′ : Quote} {k : ℕ} → Follows R.subst·pair (subst a k x a′ ∷ subst b k x b′ ∷ []) (subst (pair a b) k x (pair a′ b′))
+  by·subst·fst : {p x p′ : Quote} {k : ℕ} → Follows R.subst·fst (subst p k x p′ ∷ []) (subst (fst p) k x (fst p′))
+  by·subst·snd : {p x p′ : Quote} {k : ℕ} → Follows R.subst·snd (subst p k x p′ ∷ []) (subst (snd p) k x (snd p′))
+  by·dshift·sigma : {a a′ b b′ : Quote} {k : ℕ} → Follows R.dshift·sigma (dshift a k a′ ∷ dshift b k b′ ∷ []) (dshift (sigma a b) k (sigma a′ b′))
+  by·dshift·pair : {a a′ b b′ : Quote} {k : ℕ} → Follows R.dshift·pair (dshift a k a′ ∷ dshift b k b′ ∷ []) (dshift (pair a b) k (pair a′ b′))
+  by·dshift·fst : {p p′ : Quote} {k : ℕ} → Follows R.dshift·fst (dshift p k p′ ∷ []) (dshift (fst p) k (fst p′))
+  by·dshift·snd : {p p′ : Quote} {k : ℕ} → Follows R.dshift·snd (dshift p k p′ ∷ []) (dshift (snd p) k (snd p′))
+  by·dsubst·sigma : {a a′ b b′ : Quote} {k : ℕ} {q : Interval} → Follows R.dsubst·sigma (dsubst a k q a′ ∷ dsubst b k q b′ ∷ []) (dsubst (sigma a b) k q (sigma a′ b′))
+  by·dsubst·pair : {a a′ b b′ : Quote} {k : ℕ} {q : Interval} → Follows R.dsubst·pair (dsubst a k q a′ ∷ dsubst b k q b′ ∷ []) (dsubst (pair a b) k q (pair a′ b′))
+  by·dsubst·fst : {p p′ : Quote} {k : ℕ} {q : Interval} → Follows R.dsubst·fst (dsubst p k q p′ ∷ []) (dsubst (fst p) k q (fst p′))
+  by·dsubst·snd : {p p′ : Quote} {k : ℕ} {q : Interval} → Follows R.dsubst·snd (dsubst p k q p′ ∷ []) (dsubst (snd p) k q (snd p′))

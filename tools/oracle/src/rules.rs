@@ -1,7 +1,7 @@
 //! The names of the rules, in the order of docs/FORMAT.md: a name's place is its number.
 
 // written by tools/written.py: names of rules
-pub const NAMES: [&str; 95] = [
+pub const NAMES: [&str; 117] = [
     "ctx.nil",
     "ctx.cons",
     "dshiftctx.nil",
@@ -97,6 +97,28 @@ pub const NAMES: [&str; 95] = [
     "eq.pbeta",
     "eq.p0",
     "eq.p1",
+    "type.sigma",
+    "type.pair",
+    "type.fst",
+    "type.snd",
+    "eq.fst-beta",
+    "eq.snd-beta",
+    "shift.sigma",
+    "shift.pair",
+    "shift.fst",
+    "shift.snd",
+    "subst.sigma",
+    "subst.pair",
+    "subst.fst",
+    "subst.snd",
+    "dshift.sigma",
+    "dshift.pair",
+    "dshift.fst",
+    "dshift.snd",
+    "dsubst.sigma",
+    "dsubst.pair",
+    "dsubst.fst",
+    "dsubst.snd",
 ];
 // end of names of rules
 

@@ -6,8 +6,8 @@ use native.Mathlib.Omega.{arith}
 use lib.ListN.{length, drop}
 use Rattle.ast.specs.Words.{up}
 use Rattle.producer.specs.Machine.{W, _>>=_, when_then_else_, intern}
-use Rattle.walk.specs.Syntax.{Interval, I0, I1, Dim, Neg, Meet, Join, Term, Universe, Var, Nat, Zero, Pi, Lam, App, Path, PathLam, PathApp}
-use Rattle.walk.specs.Reader.{got, Kind, k-u, k-v, k-nat, k-zero, k-pi, k-lam, k-app, k-path, k-plam, k-papp, IKind, k-0, k-1, k-dim, k-neg, k-meet, k-join, read-interval, read-term}
+use Rattle.walk.specs.Syntax.{Interval, I0, I1, Dim, Neg, Meet, Join, Term, Universe, Var, Nat, Zero, Pi, Lam, App, Path, PathLam, PathApp, Sigma, Pair, Fst, Snd}
+use Rattle.walk.specs.Reader.{got, Kind, k-u, k-v, k-nat, k-zero, k-pi, k-lam, k-app, k-path, k-plam, k-papp, k-sigma, k-pair, k-fst, k-snd, IKind, k-0, k-1, k-dim, k-neg, k-meet, k-join, read-interval, read-term}
 use Rattle.syntax.specs.Ends.{goes-byte, goes-interval, goes-term}
 use Rattle.syntax.specs.Kinds.{kind-byte, kind-is, ikind-byte, ikind-is}
 use Rattle.syntax.specs.Nodes.{interval-of, term-of, interval-node, term-node, a-part, a-byte, is-ok}
@@ -141,4 +141,23 @@ module _ (bytes : List ℕ) (short : length bytes ≤ 65536) where
           let v = a-part _ (goes-interval f) bytes (w .middle) (w .two) in
           let (p, q, s) = is-ok (PathApp (w .first) (v .first)) _ _ (v .two) in
           ended build-term _ p s (of-two bytes f at 10 b refl ∙ rw (up-is at (omega arith)) (two (built f bytes) 10 (at + 1) _ _ _ _ (ih (at + 1) _ _ _ (w .one)) (built-interval f (w .middle) (v .one))))
+      go k-sigma b l e ih =
+          let w = a-part _ (goes-term f) bytes (at + 1) e in
+          let v = a-part _ (goes-term f) bytes (w .middle) (w .two) in
+          let (p, q, s) = is-ok (Sigma (w .first) (v .first)) _ _ (v .two) in
+          ended build-term _ p s (of-two bytes f at 11 b refl ∙ rw (up-is at (omega arith)) (two (built f bytes) 11 (at + 1) _ _ _ _ (ih (at + 1) _ _ _ (w .one)) (ih (w .middle) _ _ _ (v .one))))
+      go k-pair b l e ih =
+          let w = a-part _ (goes-term f) bytes (at + 1) e in
+          let v = a-part _ (goes-term f) bytes (w .middle) (w .two) in
+          let y = a-part _ (goes-term f) bytes (v .middle) (v .two) in
+          let (p, q, s) = is-ok (Pair (w .first) (v .first) (y .first)) _ _ (y .two) in
+          ended build-term _ p s (of-three bytes f at 12 b refl ∙ rw (up-is at (omega arith)) (three (built f bytes) 12 (at + 1) _ _ _ _ _ _ (ih (at + 1) _ _ _ (w .one)) (ih (w .middle) _ _ _ (v .one)) (ih (v .middle) _ _ _ (y .one))))
+      go k-fst b l e ih =
+          let w = a-part _ (goes-term f) bytes (at + 1) e in
+          let (p, q, s) = is-ok (Fst (w .first)) _ _ (w .two) in
+          ended build-term _ p s (of-one bytes f at 13 b refl ∙ rw (up-is at (omega arith)) (one (built f bytes) 13 (at + 1) _ _ (ih (at + 1) _ _ _ (w .one))))
+      go k-snd b l e ih =
+          let w = a-part _ (goes-term f) bytes (at + 1) e in
+          let (p, q, s) = is-ok (Snd (w .first)) _ _ (w .two) in
+          ended build-term _ p s (of-one bytes f at 14 b refl ∙ rw (up-is at (omega arith)) (one (built f bytes) 14 (at + 1) _ _ (ih (at + 1) _ _ _ (w .one))))
       -- end of kinds of a term

@@ -4,16 +4,16 @@ use mathlib.Core.Path.{subst as along, _≡_, ap}
 use mathlib.Core.List.{List, [], _∷_}
 use mathlib.Core.Option.{none}
 use lib.Dec.{lit<}
-use Rattle.walk.specs.Syntax.{quote, quote?, Interval, I0, I1, Dim, Neg, Meet, Join, Term, Universe, Var, Nat, Zero, Pi, Lam, App, Path, PathLam, PathApp, Context, Cons, Quote, path, plam, papp, Quotes}
+use Rattle.walk.specs.Syntax.{quote, quote?, Interval, I0, I1, Dim, Neg, Meet, Join, Term, Universe, Var, Nat, Zero, Pi, Lam, App, Path, PathLam, PathApp, Sigma, Pair, Fst, Snd, Context, Cons, Quote, path, plam, papp, Quotes}
 use Rattle.walk.specs.Judgment.{interval, dsubst, has, eq}
-use Rattle.walk.specs.Rules.{Follows, by·eq·refl, by·eq·sym, by·eq·trans, by·eq·beta, by·eq·pbeta, by·eq·p0, by·eq·p1}
+use Rattle.walk.specs.Rules.{Follows, by·eq·refl, by·eq·sym, by·eq·trans, by·eq·beta, by·eq·pbeta, by·eq·p0, by·eq·p1, by·eq·fst-beta, by·eq·snd-beta}
 use Rattle.walk.specs.State.{Row}
-use Rattle.walk.specs.Walk.{Subst, DSubst, Callees, typing, lam-parts, plam-parts, equation, beta, at-end, pbeta, ends, reduce-body, rounds, normalize-body, equal-body}
+use Rattle.walk.specs.Walk.{Subst, DSubst, Callees, typing, level, pi-parts, lam-parts, path-parts, plam-parts, sigma-parts, pair-parts, equation, beta, at-end, pbeta, ends, fst-beta, snd-beta, reduce-body, rounds, normalize-body, equal-body}
 use Rattle.walk.specs.Demand.{At, none-cited, _also_, same}
 use Rattle.walk.specs.Sound.Logic.{lift, _and_by_, bind, refusing, giving, branch, cases, emitted, Keeps}
 use Rattle.walk.specs.Sound.Says.{Stepped, Sound}
-use Rattle.walk.specs.Sound.Parts.{lam-is, plam-is}
-use Rattle.walk.specs.Sound.Typing.{as-path-sound}
+use Rattle.walk.specs.Sound.Parts.{lam-is, plam-is, pair-is}
+use Rattle.walk.specs.Sound.Typing.{as-path-sound, subject-sound}
 use Rattle.walk.specs.Rule as R
 
 -- two rules at equal quotes
@@ -46,6 +46,18 @@ module _ (c : Callees) (S : Sound c) where
   ends-sound d g p (Meet r q) a b f ty x y hx hy = giving none λ _ _. tt
   ends-sound d g p (Join r q) a b f ty x y hx hy = giving none λ _ _. tt
 
+  fst-beta-sound : {rs : List Row} (d : ℕ) (g : Context) (ty a b : Term) → Keeps rs (fst-beta c d g (Pair ty a b) a) (Stepped d g (Fst (Pair ty a b)))
+  unfolding fst-beta
+  fst-beta-sound d g ty a b =
+      bind (subject-sound c S d g (Pair ty a b)) λ o₁ _ _ h₁. bind (S .check d g a (o₁ .0 .0)) λ _ _ e₂ h₂.
+      bind (emitted (lift e₂ h₁ also h₂ also none-cited) by·eq·fst-beta) λ row _ _ h. giving _ λ _ e. lift e h
+
+  snd-beta-sound : {rs : List Row} (d : ℕ) (g : Context) (ty a b : Term) → Keeps rs (snd-beta c d g (Pair ty a b) b) (Stepped d g (Snd (Pair ty a b)))
+  unfolding snd-beta
+  snd-beta-sound d g ty a b =
+      bind (subject-sound c S d g (Pair ty a b)) λ o₁ _ _ h₁. bind (S .transform (o₁ .0 .1) (Subst 0 (Fst (Pair ty a b)))) λ o₂ _ e₂ h₂. bind (S .check d g b (o₂ .0)) λ _ _ e₃ h₃.
+      bind (emitted (lift e₃ (lift e₂ h₁) also lift e₃ h₂ also h₃ also none-cited) by·eq·snd-beta) λ row _ _ h. giving _ λ _ e. lift e h
+
   pub reduce-sound : {rs : List Row} (d : ℕ) (g : Context) (t : Term) → Keeps rs (reduce-body c d g t) (Stepped d g t)
   unfolding reduce-body
   reduce-sound d g (Universe l) = giving none λ _ _. tt
@@ -58,10 +70,14 @@ module _ (c : Callees) (S : Sound c) where
   reduce-sound d g (Path a b e) = giving none λ _ _. tt
   reduce-sound d g (PathLam a b) = giving none λ _ _. tt
   reduce-sound d g (PathApp p r) =
-      bind (S .infer d g p) λ o₀ _ _ h₀. bind (as-path-sound c S d g p (o₀ .0) (o₀ .1) h₀) λ o₁ _ _ h₁. bind (S .transform (o₁ .0) (DSubst 0 r)) λ o₂ _ e₂ h₂.
+      bind (S .infer d g p) λ o₀ _ _ h₀. bind (as-path-sound c S d g p (o₀ .0) (o₀ .1) h₀) λ o₁ _ _ h₁. bind (S .transform (o₁ .0 .0) (DSubst 0 r)) λ o₂ _ e₂ h₂.
       cases (plam-parts p)
-      (λ ab q. pbeta-sound d g p r (ab .1) (o₁ .0) (o₁ .1) (o₁ .2) (o₂ .0) (o₁ .3) (o₂ .1) (ap quote (plam-is p ab q)) (lift e₂ h₁) h₂)
-      (λ _. ends-sound d g p r (o₁ .0) (o₁ .1) (o₁ .2) (o₂ .0) (o₁ .3) (o₂ .1) (lift e₂ h₁) h₂)
+      (λ ab q. pbeta-sound d g p r (ab .1) (o₁ .0 .0) (o₁ .0 .1) (o₁ .0 .2) (o₂ .0) (o₁ .1) (o₂ .1) (ap quote (plam-is p ab q)) (lift e₂ h₁) h₂)
+      (λ _. ends-sound d g p r (o₁ .0 .0) (o₁ .0 .1) (o₁ .0 .2) (o₂ .0) (o₁ .1) (o₂ .1) (lift e₂ h₁) h₂)
+  reduce-sound d g (Sigma a b) = giving none λ _ _. tt
+  reduce-sound d g (Pair ty a b) = giving none λ _ _. tt
+  reduce-sound d g (Fst p) = cases (pair-parts p) (λ of q. rw (pair-is p of q) (fst-beta-sound d g (of .0) (of .1) (of .2))) (λ _. giving none λ _ _. tt)
+  reduce-sound d g (Snd p) = cases (pair-parts p) (λ of q. rw (pair-is p of q) (snd-beta-sound d g (of .0) (of .1) (of .2))) (λ _. giving none λ _ _. tt)
 
   rounds-sound : {rs : List Row} (left d : ℕ) (g : Context) (t ty current : Term) (x : ℕ) → At x (equation d g t current ty) rs → Keeps rs (rounds left c d g t ty current x) (λ o. At (o .1) (equation d g t (o .0) ty))
   unfolding rounds

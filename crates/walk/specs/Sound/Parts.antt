@@ -3,9 +3,9 @@ use Prim.Native.Nat.{ℕ}
 use mathlib.Core.Path.{_≡_, refl, subst, ap, _∙_}
 use mathlib.Core.Option.{Option, some}
 use native.Mathlib.Omega.{arith}
-use Rattle.walk.specs.Syntax.{Term, Universe, Var, Nat, Zero, Pi, Lam, App, Path, PathLam, PathApp}
-use Rattle.walk.specs.Reader.{Kind, Kind-discrete, k-u, k-v, k-nat, k-zero, k-pi, k-lam, k-app, k-path, k-plam, k-papp}
-use Rattle.walk.specs.Walk.{View, view, if-so, of-kind, level, pi-parts, lam-parts, path-parts, plam-parts}
+use Rattle.walk.specs.Syntax.{Term, Universe, Var, Nat, Zero, Pi, Lam, App, Path, PathLam, PathApp, Sigma, Pair, Fst, Snd}
+use Rattle.walk.specs.Reader.{Kind, Kind-discrete, k-u, k-v, k-nat, k-zero, k-pi, k-lam, k-app, k-path, k-plam, k-papp, k-sigma, k-pair, k-fst, k-snd}
+use Rattle.walk.specs.Walk.{View, view, if-so, of-kind, level, pi-parts, lam-parts, path-parts, plam-parts, sigma-parts, pair-parts}
 
 -- a term is what its view says, for the kinds that are asked for
 abbrev Whole : Kind → View → Term → Type 0
@@ -20,6 +20,10 @@ Whole k-app v t = Unit {0}
 Whole k-path v t = t ≡ Path (v .one) (v .two) (v .three)
 Whole k-plam v t = t ≡ PathLam (v .one) (v .two)
 Whole k-papp v t = Unit {0}
+Whole k-sigma v t = t ≡ Sigma (v .one) (v .two)
+Whole k-pair v t = t ≡ Pair (v .one) (v .two) (v .three)
+Whole k-fst v t = Unit {0}
+Whole k-snd v t = Unit {0}
 
 -- end of what a view says
 
@@ -35,6 +39,10 @@ whole (App a b) = tt
 whole (Path a b c) = refl
 whole (PathLam a b) = refl
 whole (PathApp a b) = tt
+whole (Sigma a b) = refl
+whole (Pair a b c) = refl
+whole (Fst a) = tt
+whole (Snd a) = tt
 
 -- end of that it is so
 
@@ -60,5 +68,11 @@ path-is t m e = let x = is-of k-path t _ m e in x .0 ∙ ap (λ (m : Term × Ter
 
 pub plam-is : (t : Term) (m : Term × Term) → plam-parts t ≡ some m → t ≡ PathLam (m .0) (m .1)
 plam-is t m e = let x = is-of k-plam t _ m e in x .0 ∙ ap (λ (m : Term × Term). PathLam (m .0) (m .1)) (x .1)
+
+pub sigma-is : (t : Term) (m : Term × Term) → sigma-parts t ≡ some m → t ≡ Sigma (m .0) (m .1)
+sigma-is t m e = let x = is-of k-sigma t _ m e in x .0 ∙ ap (λ (m : Term × Term). Sigma (m .0) (m .1)) (x .1)
+
+pub pair-is : (t : Term) (m : Term × Term × Term) → pair-parts t ≡ some m → t ≡ Pair (m .0) (m .1) (m .2)
+pair-is t m e = let x = is-of k-pair t _ m e in x .0 ∙ ap (λ (m : Term × Term × Term). Pair (m .0) (m .1) (m .2)) (x .1)
 
 -- end of what the parts are of

@@ -4,11 +4,11 @@ use mathlib.Core.List.{List, [], _∷_, _++_}
 use mathlib.Core.Bool.{Bool, true, false}
 use native.Mathlib.Decide.{ℕ-discrete, decLt}
 use lib.Dec.{lit<}
-use Rattle.walk.specs.Syntax.{quote, Interval, Term, Universe, Var, Nat, Zero, Pi, Lam, App, Path, PathLam, PathApp}
+use Rattle.walk.specs.Syntax.{quote, Interval, Term, Universe, Var, Nat, Zero, Pi, Lam, App, Path, PathLam, PathApp, Sigma, Pair, Fst, Snd}
 use Rattle.walk.specs.Judgment.{Judgment, subst}
-use Rattle.walk.specs.Rules.{Follows, by·shift·u, by·shift·nat, by·shift·zero, by·shift·v·lt, by·shift·v·ge, by·shift·pi, by·shift·lam, by·shift·app, by·shift·path, by·shift·plam, by·shift·papp, by·subst·u, by·subst·nat, by·subst·zero, by·subst·v·hit, by·subst·v·lt, by·subst·v·gt, by·subst·pi, by·subst·lam, by·subst·app, by·subst·path, by·subst·plam, by·subst·papp, by·dshift·u, by·dshift·nat, by·dshift·zero, by·dshift·v, by·dshift·pi, by·dshift·lam, by·dshift·app, by·dshift·path, by·dshift·plam, by·dshift·papp, by·dsubst·u, by·dsubst·nat, by·dsubst·zero, by·dsubst·v, by·dsubst·pi, by·dsubst·lam, by·dsubst·app, by·dsubst·path, by·dsubst·plam, by·dsubst·papp}
+use Rattle.walk.specs.Rules.{Follows, by·shift·u, by·shift·nat, by·shift·zero, by·shift·v·lt, by·shift·v·ge, by·shift·pi, by·shift·lam, by·shift·app, by·shift·path, by·shift·plam, by·shift·papp, by·subst·u, by·subst·nat, by·subst·zero, by·subst·v·hit, by·subst·v·lt, by·subst·v·gt, by·subst·pi, by·subst·lam, by·subst·app, by·subst·path, by·subst·plam, by·subst·papp, by·dshift·u, by·dshift·nat, by·dshift·zero, by·dshift·v, by·dshift·pi, by·dshift·lam, by·dshift·app, by·dshift·path, by·dshift·plam, by·dshift·papp, by·dsubst·u, by·dsubst·nat, by·dsubst·zero, by·dsubst·v, by·dsubst·pi, by·dsubst·lam, by·dsubst·app, by·dsubst·path, by·dsubst·plam, by·dsubst·papp, by·shift·sigma, by·shift·pair, by·shift·fst, by·shift·snd, by·subst·sigma, by·subst·pair, by·subst·fst, by·subst·snd, by·dshift·sigma, by·dshift·pair, by·dshift·fst, by·dshift·snd, by·dsubst·sigma, by·dsubst·pair, by·dsubst·fst, by·dsubst·snd}
 use Rattle.walk.specs.State.{of-term, Row}
-use Rattle.walk.specs.Walk.{Op, Shift, Subst, DShift, DSubst, IShift, ISubst, Callees, under-body, transformed, u-rule, nat-rule, zero-rule, pi-rule, lam-rule, app-rule, path-rule, plam-rule, papp-rule, finish, tvar-above, tvar, tinterval, tbinder, transform-body}
+use Rattle.walk.specs.Walk.{Op, Shift, Subst, DShift, DSubst, IShift, ISubst, Callees, under-body, transformed, u-rule, nat-rule, zero-rule, pi-rule, lam-rule, app-rule, path-rule, plam-rule, papp-rule, sigma-rule, pair-rule, fst-rule, snd-rule, finish, tvar-above, tvar, tinterval, tbinder, tprojection, transform-body}
 use Rattle.walk.specs.Demand.{At, Cites, none-cited, _also_}
 use Rattle.walk.specs.Sound.Logic.{lift, lifts, append, bind, refusing, making, giving, branch, emitted, counting, Keeps}
 use Rattle.walk.specs.Sound.Says.{Under, u-shift, u-subst, u-dshift, u-dsubst, d-shift, d-subst, d-dshift, d-dsubst, Lifted, Inside, i-shift, i-subst, i-dshift, i-dsubst, Moved, Sound}
@@ -69,6 +69,30 @@ papp-follows p p′ i-subst = by·subst·papp
 papp-follows p p′ i-dshift = by·dshift·papp
 papp-follows p p′ i-dsubst = by·dsubst·papp
 
+sigma-follows : {op op′ : Op} {js : List Judgment} (a a′ b b′ : Term) → Under op false op′ js → Follows (sigma-rule op) (transformed a op a′ ∷ js ++ transformed b op′ b′ ∷ []) (transformed (Sigma a b) op (Sigma a′ b′))
+sigma-follows a a′ b b′ u-shift = by·shift·sigma
+sigma-follows a a′ b b′ u-subst = by·subst·sigma
+sigma-follows a a′ b b′ u-dshift = by·dshift·sigma
+sigma-follows a a′ b b′ u-dsubst = by·dsubst·sigma
+
+pair-follows : (ty ty′ a a′ b b′ : Term) (op : Op) → Follows (pair-rule op) (transformed a op a′ ∷ transformed b op b′ ∷ []) (transformed (Pair ty a b) op (Pair ty′ a′ b′))
+pair-follows ty ty′ a a′ b b′ (Shift k) = by·shift·pair
+pair-follows ty ty′ a a′ b b′ (Subst k r) = by·subst·pair
+pair-follows ty ty′ a a′ b b′ (DShift k) = by·dshift·pair
+pair-follows ty ty′ a a′ b b′ (DSubst k q) = by·dsubst·pair
+
+fst-follows : (p p′ : Term) (op : Op) → Follows (fst-rule op) (transformed p op p′ ∷ []) (transformed (Fst p) op (Fst p′))
+fst-follows p p′ (Shift k) = by·shift·fst
+fst-follows p p′ (Subst k r) = by·subst·fst
+fst-follows p p′ (DShift k) = by·dshift·fst
+fst-follows p p′ (DSubst k q) = by·dsubst·fst
+
+snd-follows : (p p′ : Term) (op : Op) → Follows (snd-rule op) (transformed p op p′ ∷ []) (transformed (Snd p) op (Snd p′))
+snd-follows p p′ (Shift k) = by·shift·snd
+snd-follows p p′ (Subst k r) = by·subst·snd
+snd-follows p p′ (DShift k) = by·dshift·snd
+snd-follows p p′ (DSubst k q) = by·dsubst·snd
+
 -- the end of a transform
 finished : {rs : List Row} {refs : List ℕ} {js : List Judgment} {rule : ℕ} (t : Term) (op : Op) (out : Term) → Cites rs refs js → Follows rule js (transformed t op out) → Keeps rs (finish t op out rule refs) (λ o. At (o .1) (transformed t op (o .0)))
 unfolding finish
@@ -118,6 +142,10 @@ module _ (c : Callees) (S : Sound c) where
       bind (S .transform a op) λ o₁ _ _ h₁. bind (S .under op false) λ o₂ _ e₂ h₂. bind (S .transform b (o₂ .0)) λ o₃ _ e₃ h₃.
       finished (node a b) op (node (o₁ .0) (o₃ .0)) (append (lifts e₃ (lift e₂ h₁ also h₂ .cited)) (h₃ also none-cited)) (follows _ _ (o₁ .0) (o₃ .0) (h₂ .how))
 
+  tprojection-sound : {rs : List Row} (node : Term → Term) (rule : Op → ℕ) (p : Term) (op : Op) → ((p′ : Term) → Follows (rule op) (transformed p op p′ ∷ []) (transformed (node p) op (node p′))) → Keeps rs (tprojection c node rule p op) (λ o. At (o .1) (transformed (node p) op (o .0)))
+  unfolding tprojection
+  tprojection-sound node rule p op follows = bind (S .transform p op) λ o₁ _ _ h₁. finished (node p) op (node (o₁ .0)) (h₁ also none-cited) (follows (o₁ .0))
+
   pub transform-sound : {rs : List Row} (t : Term) (op : Op) → Keeps rs (transform-body c t op) (λ o. At (o .1) (transformed t op (o .0)))
   unfolding transform-body
   transform-sound (Universe l) op = finished (Universe l) op (Universe l) none-cited (u-follows l op)
@@ -140,3 +168,9 @@ module _ (c : Callees) (S : Sound c) where
   transform-sound (PathApp p r) op =
       bind (S .transform p op) λ o₁ _ _ h₁. bind (tinterval-sound r op) λ o₂ _ e₂ h₂.
       finished (PathApp p r) op (PathApp (o₁ .0) (o₂ .0)) (lift e₂ h₁ also h₂ .cited) (papp-follows p (o₁ .0) (h₂ .how))
+  transform-sound (Sigma a b) op = tbinder-sound Sigma sigma-rule a b op λ _ _ a′ b′ how. sigma-follows a a′ b b′ how
+  transform-sound (Pair ty a b) op =
+      bind (S .transform ty op) λ o₁ _ _ _. bind (S .transform a op) λ o₂ _ _ h₂. bind (S .transform b op) λ o₃ _ e₃ h₃.
+      finished (Pair ty a b) op (Pair (o₁ .0) (o₂ .0) (o₃ .0)) (lift e₃ h₂ also h₃ also none-cited) (pair-follows ty (o₁ .0) a (o₂ .0) b (o₃ .0) op)
+  transform-sound (Fst p) op = tprojection-sound Fst fst-rule p op λ p′. fst-follows p p′ op
+  transform-sound (Snd p) op = tprojection-sound Snd snd-rule p op λ p′. snd-follows p p′ op

@@ -1,14 +1,14 @@
--- normalize, equal, reduce: producer.rs, `normalize`, `equal` and `reduce`.
+-- normalize, equal, reduce: producer.rs, `normalize`, `equal` and `reduce`; pairs: sigma.rs.
 use Prim.Native.Nat.{ℕ, suc}
 use mathlib.Core.List.{[], _∷_}
 use mathlib.Core.Option.{Option, none, some}
-use Rattle.walk.specs.Syntax.{Interval, I0, I1, Dim, Neg, Meet, Join, Term, Universe, Var, Nat, Zero, Pi, Lam, App, Path, PathLam, PathApp, Context, Cons, quote, quotes, quote?}
+use Rattle.walk.specs.Syntax.{Interval, I0, I1, Dim, Neg, Meet, Join, Term, Universe, Var, Nat, Zero, Pi, Lam, App, Path, PathLam, PathApp, Sigma, Pair, Fst, Snd, Context, Cons, quote, quotes, quote?}
 use Rattle.walk.specs.Judgment.{Judgment, eq}
 use Rattle.walk.specs.Rule as R
 use Rattle.walk.specs.Refusal as Refusal
 use Rattle.walk.specs.State.{M, _>>=_, pure, refuse, if_then_else_, from_get_or_, emit}
 use Rattle.walk.specs.Walk.Reference.{Subst, DSubst, Step, Callees}
-use Rattle.walk.specs.Walk.Typing.{lam-parts, plam-parts, as-path}
+use Rattle.walk.specs.Walk.Typing.{level, pi-parts, lam-parts, path-parts, plam-parts, sigma-parts, pair-parts, as-path, subject}
 
 abbrev pub equation : ℕ → Context → Term → Term → Term → Judgment
 equation d g a b ty = eq d (quotes g) (quote a) (quote b) (quote ty)
@@ -48,6 +48,22 @@ ends c d g p (Neg r) b e ty x y = pure none
 ends c d g p (Meet r q) b e ty x y = pure none
 ends c d g p (Join r q) b e ty x y = pure none
 
+-- the projections of the pair p, whose parts are a and b
+unfoldable pub fst-beta : Callees → ℕ → Context → Term → Term → M (Option Step)
+fst-beta c d g p a = do
+  (sigma, x) ← subject c d g p
+  typed ← c .check d g a (sigma .0)
+  row ← emit R.eq·fst-beta (x ∷ typed ∷ []) (equation d g (Fst p) a (sigma .0))
+  pure (some (record { term = a; type = sigma .0; row = row }))
+
+unfoldable pub snd-beta : Callees → ℕ → Context → Term → Term → M (Option Step)
+snd-beta c d g p b = do
+  (sigma, x) ← subject c d g p
+  (ty, y) ← c .transform (sigma .1) (Subst 0 (Fst p))
+  typed ← c .check d g b ty
+  row ← emit R.eq·snd-beta (x ∷ y ∷ typed ∷ []) (equation d g (Snd p) b ty)
+  pure (some (record { term = b; type = ty; row = row }))
+
 unfoldable pub reduce-body : Callees → ℕ → Context → Term → M (Option Step)
 reduce-body c d g (Universe l) = pure none
 reduce-body c d g (Var n) = pure none
@@ -60,9 +76,13 @@ reduce-body c d g (Path a b e) = pure none
 reduce-body c d g (PathLam a b) = pure none
 reduce-body c d g (PathApp p r) = do
   (pty, x₀) ← c .infer d g p
-  (a, b, e, x) ← as-path c d g p pty x₀
-  (ty, y) ← c .transform a (DSubst 0 r)
-  from plam-parts p get (λ ab. pbeta c d g p r (ab .1) ty x y) or ends c d g p r b e ty x y
+  (path, x) ← as-path c d g p pty x₀
+  (ty, y) ← c .transform (path .0) (DSubst 0 r)
+  from plam-parts p get (λ ab. pbeta c d g p r (ab .1) ty x y) or ends c d g p r (path .1) (path .2) ty x y
+reduce-body c d g (Sigma a b) = pure none
+reduce-body c d g (Pair ty a b) = pure none
+reduce-body c d g (Fst p) = from pair-parts p get (λ of. fst-beta c d g p (of .1)) or pure none
+reduce-body c d g (Snd p) = from pair-parts p get (λ of. snd-beta c d g p (of .2)) or pure none
 
 -- reduce at the root while that goes, at most `left` times
 unfoldable pub rounds : ℕ → Callees → ℕ → Context → Term → Term → Term → ℕ → M (Term × ℕ)

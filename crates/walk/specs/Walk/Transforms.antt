@@ -3,7 +3,7 @@ use Prim.Native.Nat.{ℕ, suc}
 use mathlib.Core.List.{List, [], _∷_, _++_}
 use mathlib.Core.Bool.{Bool, true, false}
 use native.Mathlib.Decide.{ℕ-discrete, decLt}
-use Rattle.walk.specs.Syntax.{Interval, Term, Universe, Var, Nat, Zero, Pi, Lam, App, Path, PathLam, PathApp, quote}
+use Rattle.walk.specs.Syntax.{Interval, Term, Universe, Var, Nat, Zero, Pi, Lam, App, Path, PathLam, PathApp, Sigma, Pair, Fst, Snd, quote}
 use Rattle.walk.specs.Judgment.{Judgment, shift, subst, dshift, dsubst}
 use Rattle.walk.specs.Rule as R
 use Rattle.walk.specs.Refusal as Refusal
@@ -74,6 +74,18 @@ plam-rule op = by-op op R.shift·plam R.subst·plam R.dshift·plam R.dsubst·pla
 abbrev pub papp-rule : Op → ℕ
 papp-rule op = by-op op R.shift·papp R.subst·papp R.dshift·papp R.dsubst·papp
 
+abbrev pub sigma-rule : Op → ℕ
+sigma-rule op = by-op op R.shift·sigma R.subst·sigma R.dshift·sigma R.dsubst·sigma
+
+abbrev pub pair-rule : Op → ℕ
+pair-rule op = by-op op R.shift·pair R.subst·pair R.dshift·pair R.dsubst·pair
+
+abbrev pub fst-rule : Op → ℕ
+fst-rule op = by-op op R.shift·fst R.subst·fst R.dshift·fst R.dsubst·fst
+
+abbrev pub snd-rule : Op → ℕ
+snd-rule op = by-op op R.shift·snd R.subst·snd R.dshift·snd R.dsubst·snd
+
 -- end of rules of a kind
 
 unfoldable pub finish : Term → Op → Term → ℕ → List ℕ → M (Term × ℕ)
@@ -115,13 +127,19 @@ tinterval c r (DSubst k q) = do
   (r′, x) ← c .itransform r (ISubst k q)
   pure (r′, x ∷ [])
 
--- two parts, the second under a variable, and both shown: a pi
+-- two parts, the second under a variable, and both shown: a pi, a sigma
 unfoldable pub tbinder : Callees → (Term → Term → Term) → (Op → ℕ) → Term → Term → Op → M (Term × ℕ)
 tbinder c node rule a b op = do
   (a′, x) ← c .transform a op
   (inner, refs) ← c .under op false
   (b′, y) ← c .transform b inner
   finish (node a b) op (node a′ b′) (rule op) (x ∷ refs ++ y ∷ [])
+
+-- one part: a projection
+unfoldable pub tprojection : Callees → (Term → Term) → (Op → ℕ) → Term → Op → M (Term × ℕ)
+tprojection c node rule p op = do
+  (p′, x) ← c .transform p op
+  finish (node p) op (node p′) (rule op) (x ∷ [])
 
 unfoldable pub transform-body : Callees → Term → Op → M (Term × ℕ)
 transform-body c (Universe l) op = finish (Universe l) op (Universe l) (u-rule op) []
@@ -153,3 +171,11 @@ transform-body c (PathApp p r) op = do
   (p′, x) ← c .transform p op
   (r′, refs) ← tinterval c r op
   finish (PathApp p r) op (PathApp p′ r′) (papp-rule op) (x ∷ refs)
+transform-body c (Sigma a b) op = tbinder c Sigma sigma-rule a b op
+transform-body c (Pair ty a b) op = do
+  (ty′, _) ← c .transform ty op
+  (a′, x) ← c .transform a op
+  (b′, y) ← c .transform b op
+  finish (Pair ty a b) op (Pair ty′ a′ b′) (pair-rule op) (x ∷ y ∷ [])
+transform-body c (Fst p) op = tprojection c Fst fst-rule p op
+transform-body c (Snd p) op = tprojection c Snd snd-rule p op

@@ -1,11 +1,11 @@
--- infer, universe, check, expose: producer.rs, `infer`, `universe`, `check` and `expose`.
+-- infer, universe, check, expose: producer.rs, `infer`, `universe`, `check` and `expose`; pairs: sigma.rs.
 use Prim.Native.Nat.{ℕ}
 use mathlib.Core.List.{List, [], _∷_}
 use mathlib.Core.Option.{Option, none, some}
 use native.Mathlib.Decide.{ℕ-discrete}
-use Rattle.walk.specs.Syntax.{I0, I1, Dim, Neg, Meet, Join, Term, Universe, Var, Nat, Zero, Pi, Lam, App, Path, PathLam, PathApp, Context, Cons, quote, quotes, quote?}
+use Rattle.walk.specs.Syntax.{I0, I1, Dim, Neg, Meet, Join, Term, Universe, Var, Nat, Zero, Pi, Lam, App, Path, PathLam, PathApp, Sigma, Pair, Fst, Snd, Context, Cons, quote, quotes, quote?}
 use Rattle.walk.specs.Judgment.{Judgment, has}
-use Rattle.walk.specs.Reader.{Kind, Kind-discrete, k-u, k-v, k-nat, k-zero, k-pi, k-lam, k-app, k-path, k-plam, k-papp}
+use Rattle.walk.specs.Reader.{Kind, Kind-discrete, k-u, k-v, k-nat, k-zero, k-pi, k-lam, k-app, k-path, k-plam, k-papp, k-sigma, k-pair, k-fst, k-snd}
 use Rattle.walk.specs.Rule as R
 use Rattle.walk.specs.Refusal as Refusal
 use Rattle.walk.specs.State.{M, looking, _>>=_, pure, refuse, if_then_else_, from_get_or_, of-term, key, count-all, emit, recall, remember, converting}
@@ -39,6 +39,10 @@ view (App a b) = seen k-app 0 a b Nat
 view (Path a b c) = seen k-path 0 a b c
 view (PathLam a b) = seen k-plam 0 a b Nat
 view (PathApp a b) = seen k-papp 0 a Nat Nat
+view (Sigma a b) = seen k-sigma 0 a b Nat
+view (Pair a b c) = seen k-pair 0 a b c
+view (Fst a) = seen k-fst 0 a Nat Nat
+view (Snd a) = seen k-snd 0 a Nat Nat
 
 -- end of view
 
@@ -65,6 +69,12 @@ path-parts t = of-kind k-path (view t) (view t .one, view t .two, view t .three)
 
 abbrev pub plam-parts : Term → Option (Term × Term)
 plam-parts t = of-kind k-plam (view t) (view t .one, view t .two)
+
+abbrev pub sigma-parts : Term → Option (Term × Term)
+sigma-parts t = of-kind k-sigma (view t) (view t .one, view t .two)
+
+abbrev pub pair-parts : Term → Option (Term × Term × Term)
+pair-parts t = of-kind k-pair (view t) (view t .one, view t .two, view t .three)
 
 -- end of parts of a kind
 
@@ -102,22 +112,26 @@ check-body c d g t expected = do
               emit R.type·conv (row ∷ equality ∷ formed ∷ []) (typing d g t expected))
             else refuse Refusal.levels
 
--- a type with its head exposed where it is not yet a pi (a path): the term's row goes along
-unfoldable pub as-pi : Callees → ℕ → Context → Term → Term → ℕ → M (Term × Term × ℕ)
-as-pi c d g f ty row =
-    from pi-parts ty
-    get (λ ab. pure (ab .0, ab .1, row))
+-- a type taken apart, its head exposed where it is not yet written so: the parts, and the term's row, which goes along
+unfoldable pub as-parts : {A : Type 0} → (Term → Option A) → ℕ → Callees → ℕ → Context → Term → Term → ℕ → M (A × ℕ)
+as-parts parts refusal c d g t ty row =
+    from parts ty
+    get (λ of. pure (of, row))
     or (do
-      (ty′, row′) ← converting (c .expose d g f ty row)
-      from pi-parts ty′ get (λ ab. pure (ab .0, ab .1, row′)) or refuse Refusal.no-function)
+      (ty′, row′) ← converting (c .expose d g t ty row)
+      from parts ty′ get (λ of. pure (of, row′)) or refuse refusal)
 
-unfoldable pub as-path : Callees → ℕ → Context → Term → Term → ℕ → M (Term × Term × Term × ℕ)
-as-path c d g p ty row =
-    from path-parts ty
-    get (λ abc. pure (abc .0, abc .1, abc .2, row))
-    or (do
-      (ty′, row′) ← converting (c .expose d g p ty row)
-      from path-parts ty′ get (λ abc. pure (abc .0, abc .1, abc .2, row′)) or refuse Refusal.no-path)
+abbrev pub as-pi : Callees → ℕ → Context → Term → Term → ℕ → M ((Term × Term) × ℕ)
+as-pi c d g f ty row = as-parts pi-parts Refusal.no-function c d g f ty row
+
+abbrev pub as-path : Callees → ℕ → Context → Term → Term → ℕ → M ((Term × Term × Term) × ℕ)
+as-path c d g p ty row = as-parts path-parts Refusal.no-path c d g p ty row
+
+-- sigma.rs, `subject`: the parts of the sigma type that the subject of a projection has, and its row
+unfoldable pub subject : Callees → ℕ → Context → Term → M ((Term × Term) × ℕ)
+subject c d g p = do
+  (ty, row) ← c .infer d g p
+  as-parts sigma-parts Refusal.no-sigma c d g p ty row
 
 -- what is found: its type takes cells at once
 unfoldable pub found : Term → List ℕ → ℕ → M Found
@@ -125,13 +139,24 @@ found ty refs rule = do
   _ ← count-all (of-term ty)
   pure (record { type = ty; refs = refs; rule = rule })
 
--- two parts that are types, the second under a variable: a pi
+-- two parts that are types, the second under a variable: a pi, a sigma
 unfoldable pub find-binder : Callees → ℕ → Context → Term → Term → ℕ → M Found
 find-binder c d g a b rule = do
   (i, x) ← c .universe d g a
   (j, y) ← c .universe d (Cons a g) b
   z ← c .max i j
   found (Universe (larger i j)) (x ∷ y ∷ z ∷ []) rule
+
+-- a pair at the sigma type with the parts ta and tb, which it is annotated with
+unfoldable pub find-pair : Callees → ℕ → Context → Term → Term → Term → Term → Term → M Found
+find-pair c d g ty ta tb a b = do
+  (_, x₀) ← c .universe d g ta
+  (j, x₁) ← c .universe d (Cons ta g) tb
+  x₂ ← c .check d g a ta
+  (out, x₃) ← c .transform tb (Subst 0 a)
+  x₄ ← c .check d g out (Universe j)
+  x₅ ← c .check d g b out
+  found ty (x₀ ∷ x₁ ∷ x₂ ∷ x₃ ∷ x₄ ∷ x₅ ∷ []) R.type·pair
 
 unfoldable pub find : Callees → ℕ → Context → Term → M Found
 find c d g (Universe l) = do
@@ -156,9 +181,9 @@ find c d g (Lam a body) = do
   found (Pi a b) (x ∷ y ∷ z ∷ []) R.type·lam
 find c d g (App f a) = do
   (fty, x₀) ← c .infer d g f
-  (domain, codomain, x) ← as-pi c d g f fty x₀
-  y ← c .check d g a domain
-  (out, z) ← c .transform codomain (Subst 0 a)
+  (pi, x) ← as-pi c d g f fty x₀
+  y ← c .check d g a (pi .0)
+  (out, z) ← c .transform (pi .1) (Subst 0 a)
   found out (x ∷ y ∷ z ∷ []) R.type·app
 find c d g (Path a b e) = do
   x₀ ← c .ctx d g
@@ -185,11 +210,22 @@ find c d g (PathLam a body) = do
   found (Path a t0 t1) (x₀ ∷ x₁ ∷ x₂ ∷ x₃ ∷ x₄ ∷ x₅ ∷ x₆ ∷ x₇ ∷ x₈ ∷ x₉ ∷ []) R.type·plam
 find c d g (PathApp p r) = do
   (pty, x₀) ← c .infer d g p
-  (a, _, _, x) ← as-path c d g p pty x₀
+  (path, x) ← as-path c d g p pty x₀
   y ← c .interval d r
-  (out, z) ← c .transform a (DSubst 0 r)
+  (out, z) ← c .transform (path .0) (DSubst 0 r)
   (_, w) ← c .universe d g out
   found out (x ∷ y ∷ z ∷ w ∷ []) R.type·papp
+find c d g (Sigma a b) = find-binder c d g a b R.type·sigma
+find c d g (Pair ty a b) = from sigma-parts ty get (λ of. find-pair c d g ty (of .0) (of .1) a b) or refuse Refusal.annotation
+find c d g (Fst p) = do
+  (sigma, x) ← subject c d g p
+  (_, y) ← c .universe d g (sigma .0)
+  found (sigma .0) (x ∷ y ∷ []) R.type·fst
+find c d g (Snd p) = do
+  (sigma, x) ← subject c d g p
+  (out, y) ← c .transform (sigma .1) (Subst 0 (Fst p))
+  (_, z) ← c .universe d g out
+  found out (x ∷ y ∷ z ∷ []) R.type·snd
 
 unfoldable pub new-infer : Callees → ℕ → Context → Term → M (Term × ℕ)
 new-infer c d g t = do
