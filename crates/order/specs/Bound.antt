@@ -11,26 +11,27 @@ use native.Mathlib.Decide.{ℕ-discrete, decLt, decLe}
 use native.Mathlib.Omega.{arith}
 use lib.ListN.{length}
 use Rattle.walk.specs.Syntax.{Interval, I0, I1, Dim, Neg, Meet, Join, Term, Universe, Var, Nat, Zero, Pi, Lam, App, Path, PathLam, PathApp, Sigma, Pair, Fst, Snd, Context, Nil, Cons, quote, quotes, quote?}
-use Rattle.walk.specs.Judgment.{Judgment, ctx, dshiftctx, lookup, lt, le, max, interval, ishift, isubst, shift, subst, dshift, dsubst, has, eq}
+use Rattle.walk.specs.Judgment.{Judgment, ctx, dshiftctx, lookup, lt, le, max as is-max, interval, ishift, isubst, shift, subst, dshift, dsubst, has, eq}
 use Rattle.walk.specs.State.{Row, Key, key, key?, Thing, inference, State, Outcome, done, refused, M, go-on, looking, _>>=_, pure, refuse, if_then_else_, from_get_or_, row-of, with-row, push, emit, among, with-cell, count, count-all, recall, Memory, with-memory, store, remember, with-conversions, ended, converted, converting, with-deepest, note, enter, of-term, of-interval, of-context}
 use Rattle.walk.specs.Walk.Reference.{Op, Shift, Subst, DShift, DSubst, IOp, IShift, ISubst, Step, Found, Callees, of-op, of-iop}
 use Rattle.walk.specs.Walk.Numbers.{lt-by, le-by, larger, comparison-body, max-body}
 use Rattle.walk.specs.Walk.Intervals.{itransformed, ifinish, idim-above, idim, itransform-body, interval-body}
-use Rattle.walk.specs.Walk.Transforms.{under-body, transformed, finish, tvar-above, tvar, tinterval, tbinder, transform-body}
+use Rattle.walk.specs.Walk.Transforms.{under-body, transformed, finish, tvar-above, tvar, tinterval, tbinder, tprojection, transform-body}
 use Rattle.walk.specs.Walk.Contexts.{dshiftctx-body, new-ctx, ctx-body, lookup-body}
-use Rattle.walk.specs.Walk.Typing.{level, pi-parts, lam-parts, path-parts, plam-parts, sigma-parts, pair-parts, expose-body, universe-body, check-body, as-pi, as-path, found, find-binder, find, new-infer, infer-body}
-use Rattle.walk.specs.Walk.Equality.{beta, at-end, pbeta, ends, reduce-body, rounds, normalize-body, equal-body}
+use Rattle.walk.specs.Walk.Typing.{level, pi-parts, lam-parts, path-parts, plam-parts, sigma-parts, pair-parts, expose-body, universe-body, check-body, as-parts, as-pi, as-path, subject, found, find-binder, find-pair, find, new-infer, infer-body}
+use Rattle.walk.specs.Walk.Equality.{beta, at-end, pbeta, ends, fst-beta, snd-beta, reduce-body, rounds, normalize-body, equal-body}
 use Rattle.walk.specs.Refusal as Refusal
 use Rattle.walk.specs.Walk.{none-left, entered, callees-by, one-more, callees}
 use Rattle.order.specs.Numbers.{largest, interval-top, term-top, context-top, quote-top, quotes-top, judgment-top, key-top, thing-top, memory-top, At-most, at-most-nil, at-most-cons, State-bounded}
 use Rattle.order.specs.Guarded.{beyond, bump, guarded}
-use Rattle.walk.specs.Sound.Parts.{level-is, pi-is, lam-is, path-is, plam-is}
+use Rattle.walk.specs.Sound.Parts.{level-is, pi-is, lam-is, path-is, plam-is, sigma-is, pair-is}
 use Rattle.walk.specs.Demand.{At, here, there}
 use Rattle.walk.specs.Sound.Logic.{found as row-found}
 
 -- a quote shows no more than the term
 pub quote-below : (t : Term) → quote-top (quote t) ≤ term-top t
-quote-below (Universe l) = omega arith
+-- written by tools/written.py: quotes
+quote-below (Universe n) = omega arith
 quote-below (Var n) = omega arith
 quote-below Nat = omega arith
 quote-below Zero = omega arith
@@ -39,7 +40,13 @@ quote-below (Lam a b) = let y = quote-below b in omega arith
 quote-below (App a b) = let x = quote-below a in let y = quote-below b in omega arith
 quote-below (Path a b c) = let x = quote-below a in let y = quote-below b in let z = quote-below c in omega arith
 quote-below (PathLam a b) = let y = quote-below b in omega arith
-quote-below (PathApp a r) = let x = quote-below a in omega arith
+quote-below (PathApp a b) = let x = quote-below a in omega arith
+quote-below (Sigma a b) = let x = quote-below a in let y = quote-below b in omega arith
+quote-below (Pair a b c) = let y = quote-below b in let z = quote-below c in omega arith
+quote-below (Fst a) = let x = quote-below a in omega arith
+quote-below (Snd a) = let x = quote-below a in omega arith
+
+-- end of quotes
 
 pub quotes-below : (g : Context) → quotes-top (quotes g) ≤ context-top g
 quotes-below Nil = omega arith
@@ -52,7 +59,7 @@ Below m (dshiftctx g k h) = (k ≤ 4200 + m) × (quotes-top g ≤ m) × (quotes-
 Below m (lookup g i t) = (i ≤ 4200 + m) × (quotes-top g ≤ m) × (quote-top t ≤ m)
 Below m (lt i j) = (i ≤ 4200 + m) × (j ≤ 4200 + m)
 Below m (le i j) = (i ≤ 4200 + m) × (j ≤ 4200 + m)
-Below m (Judgment.max i j k) = (i ≤ 4200 + m) × (j ≤ 4200 + m) × (k ≤ 4200 + m)
+Below m (is-max i j k) = (i ≤ 4200 + m) × (j ≤ 4200 + m) × (k ≤ 4200 + m)
 Below m (interval d r) = (d ≤ 4200 + m) × (interval-top r ≤ m)
 Below m (ishift r k q) = (k ≤ 4200 + m) × (interval-top r ≤ m) × (interval-top q ≤ m)
 Below m (isubst r k q p) = (k ≤ 4200 + m) × (interval-top r ≤ m) × (interval-top q ≤ m) × (interval-top p ≤ m)
@@ -69,7 +76,7 @@ below-more m m′ (dshiftctx g k g′) l h = omega arith
 below-more m m′ (lookup g i t) l h = omega arith
 below-more m m′ (lt i k) l h = omega arith
 below-more m m′ (le i k) l h = omega arith
-below-more m m′ (Judgment.max i k o) l h = omega arith
+below-more m m′ (is-max i k o) l h = omega arith
 below-more m m′ (interval d r) l h = omega arith
 below-more m m′ (ishift r k q) l h = omega arith
 below-more m m′ (isubst r k q p) l h = omega arith
@@ -87,7 +94,7 @@ below-top m (dshiftctx g k g′) h = omega arith
 below-top m (lookup g i t) h = omega arith
 below-top m (lt i k) h = omega arith
 below-top m (le i k) h = omega arith
-below-top m (Judgment.max i k o) h = omega arith
+below-top m (is-max i k o) h = omega arith
 below-top m (interval d r) h = omega arith
 below-top m (ishift r k q) h = omega arith
 below-top m (isubst r k q p) h = omega arith
@@ -113,24 +120,34 @@ one-cell : {m : ℕ} {x : Thing} → thing-top x ≤ m → Cells m (x ∷ [])
 one-cell h = at-most-cons h at-most-nil
 
 interval-cells : {m : ℕ} (r : Interval) → interval-top r ≤ m → Cells m (of-interval r)
+-- written by tools/written.py: cells of an interval
 interval-cells I0 h = one-cell h
 interval-cells I1 h = one-cell h
-interval-cells (Dim i) h = one-cell h
-interval-cells (Neg r) h = interval-cells r h +++ one-cell h
-interval-cells (Meet r q) h = interval-cells r (omega arith) +++ interval-cells q (omega arith) +++ one-cell h
-interval-cells (Join r q) h = interval-cells r (omega arith) +++ interval-cells q (omega arith) +++ one-cell h
+interval-cells (Dim n) h = one-cell h
+interval-cells (Neg a) h = interval-cells a (omega arith) +++ one-cell h
+interval-cells (Meet a b) h = interval-cells a (omega arith) +++ interval-cells b (omega arith) +++ one-cell h
+interval-cells (Join a b) h = interval-cells a (omega arith) +++ interval-cells b (omega arith) +++ one-cell h
+
+-- end of cells of an interval
 
 term-cells : {m : ℕ} (t : Term) → term-top t ≤ m → Cells m (of-term t)
-term-cells (Universe l) h = one-cell h
-term-cells (Var i) h = one-cell h
+-- written by tools/written.py: cells of a term
+term-cells (Universe n) h = one-cell h
+term-cells (Var n) h = one-cell h
 term-cells Nat h = one-cell h
 term-cells Zero h = one-cell h
-term-cells (Pi s t) h = term-cells s (omega arith) +++ term-cells t (omega arith) +++ one-cell h
-term-cells (Lam s t) h = term-cells s (omega arith) +++ term-cells t (omega arith) +++ one-cell h
-term-cells (App s t) h = term-cells s (omega arith) +++ term-cells t (omega arith) +++ one-cell h
-term-cells (Path s t r) h = term-cells s (omega arith) +++ term-cells t (omega arith) +++ term-cells r (omega arith) +++ one-cell h
-term-cells (PathLam s t) h = term-cells s (omega arith) +++ term-cells t (omega arith) +++ one-cell h
-term-cells (PathApp s r) h = term-cells s (omega arith) +++ interval-cells r (omega arith) +++ one-cell h
+term-cells (Pi a b) h = term-cells a (omega arith) +++ term-cells b (omega arith) +++ one-cell h
+term-cells (Lam a b) h = term-cells a (omega arith) +++ term-cells b (omega arith) +++ one-cell h
+term-cells (App a b) h = term-cells a (omega arith) +++ term-cells b (omega arith) +++ one-cell h
+term-cells (Path a b c) h = term-cells a (omega arith) +++ term-cells b (omega arith) +++ term-cells c (omega arith) +++ one-cell h
+term-cells (PathLam a b) h = term-cells a (omega arith) +++ term-cells b (omega arith) +++ one-cell h
+term-cells (PathApp a b) h = term-cells a (omega arith) +++ interval-cells b (omega arith) +++ one-cell h
+term-cells (Sigma a b) h = term-cells a (omega arith) +++ term-cells b (omega arith) +++ one-cell h
+term-cells (Pair a b c) h = term-cells a (omega arith) +++ term-cells b (omega arith) +++ term-cells c (omega arith) +++ one-cell h
+term-cells (Fst a) h = term-cells a (omega arith) +++ one-cell h
+term-cells (Snd a) h = term-cells a (omega arith) +++ one-cell h
+
+-- end of cells of a term
 
 context-cells : {m : ℕ} (g : Context) → context-top g ≤ m → Cells m (of-context g)
 context-cells Nil h = one-cell h
@@ -455,6 +472,12 @@ path-top t m e = rw (path-is t m e) (omega arith)
 plam-top : (t : Term) (m : Term × Term) → plam-parts t ≡ some m → (term-top (m .0) ≤ term-top t) × (term-top (m .1) ≤ term-top t)
 plam-top t m e = rw (plam-is t m e) (omega arith)
 
+sigma-top : (t : Term) (m : Term × Term) → sigma-parts t ≡ some m → (term-top (m .0) ≤ term-top t) × (term-top (m .1) ≤ term-top t)
+sigma-top t m e = rw (sigma-is t m e) (omega arith)
+
+pair-top : (t : Term) (m : Term × Term × Term) → pair-parts t ≡ some m → (term-top (m .0) ≤ term-top t) × (term-top (m .1) ≤ term-top t) × (term-top (m .2) ≤ term-top t)
+pair-top t m e = rw (pair-is t m e) (omega arith)
+
 -- a type that was found: one more than what was handed about only where it is a universe
 abbrev pub Ready : Term → ℕ → Type 0
 Ready ty b = (term-top ty ≤ 33 + b) × ((c : ℕ) → b ≤ c → quote-top (quote ty) ≤ 32 + c → term-top ty ≤ 32 + c)
@@ -573,7 +596,7 @@ module _ (n : ℕ) (c c′ : Callees) (B : Bounds n c c′) where
   tinterval-within r (DSubst k q) h = bind (B .itransform r (ISubst k q) (omega arith)) λ x₁ c₁ e₁ h₁. giving _ λ c e. omega arith
 
   transform-within : {b : ℕ} (t : Term) (op : Op) → (op-cutoff op + suc n ≤ 4200) × (term-top t ≤ 32 + b) × (op-top op ≤ 32 + b) → Within b (transform-body c t op) (transform-body c′ t op) Small-term
-  unfolding transform-body tbinder
+  unfolding transform-body tbinder tprojection
   transform-within (Universe l) op h = finished _ _ _ _ _ (omega arith)
   transform-within (Var i) op h = tvar-within i op (omega arith)
   transform-within Nat op h = finished _ _ _ _ _ (omega arith)
@@ -584,6 +607,10 @@ module _ (n : ℕ) (c c′ : Callees) (B : Bounds n c c′) where
   transform-within (Path s t r) op h = bind (B .under op true (omega arith)) λ x₁ c₁ e₁ h₁. bind (B .transform s _ (omega arith)) λ x₂ c₂ e₂ h₂. bind (B .transform t op (omega arith)) λ x₃ c₃ e₃ h₃. bind (B .transform r op (omega arith)) λ x₄ c₄ e₄ h₄. finished _ _ _ _ _ (omega arith)
   transform-within (PathLam s t) op h = bind (B .under op true (omega arith)) λ x₁ c₁ e₁ h₁. bind (B .transform s _ (omega arith)) λ x₂ c₂ e₂ h₂. bind (B .transform t _ (omega arith)) λ x₃ c₃ e₃ h₃. finished _ _ _ _ _ (omega arith)
   transform-within (PathApp s r) op h = bind (B .transform s op (omega arith)) λ x₁ c₁ e₁ h₁. bind (tinterval-within r op (omega arith)) λ x₂ c₂ e₂ h₂. finished _ _ _ _ _ (omega arith)
+  transform-within (Sigma s t) op h = bind (B .transform s op (omega arith)) λ x₁ c₁ e₁ h₁. bind (B .under op false (omega arith)) λ x₂ c₂ e₂ h₂. bind (B .transform t _ (omega arith)) λ x₃ c₃ e₃ h₃. finished _ _ _ _ _ (omega arith)
+  transform-within (Pair y s t) op h = bind (B .transform y op (omega arith)) λ x₁ c₁ e₁ h₁. bind (B .transform s op (omega arith)) λ x₂ c₂ e₂ h₂. bind (B .transform t op (omega arith)) λ x₃ c₃ e₃ h₃. finished _ _ _ _ _ (omega arith)
+  transform-within (Fst p) op h = bind (B .transform p op (omega arith)) λ x₁ c₁ e₁ h₁. finished _ _ _ _ _ (omega arith)
+  transform-within (Snd p) op h = bind (B .transform p op (omega arith)) λ x₁ c₁ e₁ h₁. finished _ _ _ _ _ (omega arith)
 
   dshiftctx-within : {b : ℕ} (g : Context) → (suc n ≤ 4200) × (context-top g ≤ 32 + b) → Within b (dshiftctx-body c g) (dshiftctx-body c′ g) Small-context
   unfolding dshiftctx-body
@@ -637,31 +664,45 @@ module _ (n : ℕ) (c c′ : Callees) (B : Bounds n c c′) where
       (λ _. bind (B .equal d g (x₁ .0) y (Universe (x₂ .0)) (omega arith)) λ x₄ c₄ e₄ h₄. let p = quotes-below g in let q = quote-below t in let r = quote-below y in emits _ _ _ (omega arith))
       (λ _. refusing (λ z. omega arith))))
 
-  as-pi-within : {b : ℕ} (d : ℕ) (g : Context) (t y : Term) (row : ℕ) → (d + suc n ≤ 4200) × (context-top g ≤ 32 + b) × (term-top t ≤ 32 + b) × (term-top y ≤ 32 + b) → Within b (as-pi c d g t y row) (as-pi c′ d g t y row) (λ o b. (term-top (o .0) ≤ 32 + b) × (term-top (o .1) ≤ 32 + b))
-  unfolding as-pi
-  as-pi-within d g t y row h =
-      cases (pi-parts y)
-      (λ ab q. let p = pi-top y ab q in giving _ λ c e. omega arith)
-      (λ _. bind (convert (B .expose d g t y row (omega arith))) λ x₁ c₁ e₁ h₁. cases (pi-parts (x₁ .0)) (λ ab q. let p = pi-top (x₁ .0) ab q in giving _ λ c e. omega arith) (λ _. refusing (λ z. omega arith)))
+  as-parts-within : {b : ℕ} {A : Type 0} (parts : Term → Option A) (Small : A → ℕ → Type 0) → ((t : Term) (m : A) (k : ℕ) → parts t ≡ some m → term-top t ≤ 32 + k → Small m k) → (refusal : ℕ) → (refusal ≡ 0 → ⊥) → (d : ℕ) (g : Context) (t y : Term) (row : ℕ) → (d + suc n ≤ 4200) × (context-top g ≤ 32 + b) × (term-top t ≤ 32 + b) × (term-top y ≤ 32 + b) → Within b (as-parts parts refusal c d g t y row) (as-parts parts refusal c′ d g t y row) (λ o b. Small (o .0) b)
+  unfolding as-parts
+  as-parts-within parts Small small refusal nonzero d g t y row h =
+      cases (parts y)
+      (λ of q. giving _ λ k e. small y of k q (omega arith))
+      (λ _. bind (convert (B .expose d g t y row (omega arith))) λ x₁ c₁ e₁ h₁. cases (parts (x₁ .0)) (λ of q. giving _ λ k e. small (x₁ .0) of k q (omega arith)) (λ _. refusing nonzero))
 
-  as-path-within : {b : ℕ} (d : ℕ) (g : Context) (t y : Term) (row : ℕ) → (d + suc n ≤ 4200) × (context-top g ≤ 32 + b) × (term-top t ≤ 32 + b) × (term-top y ≤ 32 + b) → Within b (as-path c d g t y row) (as-path c′ d g t y row) (λ o b. (term-top (o .0) ≤ 32 + b) × (term-top (o .1) ≤ 32 + b) × (term-top (o .2) ≤ 32 + b))
-  unfolding as-path
-  as-path-within d g t y row h =
-      cases (path-parts y)
-      (λ ab q. let p = path-top y ab q in giving _ λ c e. omega arith)
-      (λ _. bind (convert (B .expose d g t y row (omega arith))) λ x₁ c₁ e₁ h₁. cases (path-parts (x₁ .0)) (λ ab q. let p = path-top (x₁ .0) ab q in giving _ λ c e. omega arith) (λ _. refusing (λ z. omega arith)))
+  as-pi-within : {b : ℕ} (d : ℕ) (g : Context) (t y : Term) (row : ℕ) → (d + suc n ≤ 4200) × (context-top g ≤ 32 + b) × (term-top t ≤ 32 + b) × (term-top y ≤ 32 + b) → Within b (as-pi c d g t y row) (as-pi c′ d g t y row) (λ o b. (term-top (o .0 .0) ≤ 32 + b) × (term-top (o .0 .1) ≤ 32 + b))
+  as-pi-within = as-parts-within pi-parts (λ m b. (term-top (m .0) ≤ 32 + b) × (term-top (m .1) ≤ 32 + b)) (λ t m k q h. let p = pi-top t m q in omega arith) _ (λ z. omega arith)
+
+  as-path-within : {b : ℕ} (d : ℕ) (g : Context) (t y : Term) (row : ℕ) → (d + suc n ≤ 4200) × (context-top g ≤ 32 + b) × (term-top t ≤ 32 + b) × (term-top y ≤ 32 + b) → Within b (as-path c d g t y row) (as-path c′ d g t y row) (λ o b. (term-top (o .0 .0) ≤ 32 + b) × (term-top (o .0 .1) ≤ 32 + b) × (term-top (o .0 .2) ≤ 32 + b))
+  as-path-within = as-parts-within path-parts (λ m b. (term-top (m .0) ≤ 32 + b) × (term-top (m .1) ≤ 32 + b) × (term-top (m .2) ≤ 32 + b)) (λ t m k q h. let p = path-top t m q in omega arith) _ (λ z. omega arith)
+
+  subject-within : {b : ℕ} (d : ℕ) (g : Context) (p : Term) → (d + suc n ≤ 4200) × (context-top g ≤ 32 + b) × (term-top p ≤ 32 + b) → Within b (subject c d g p) (subject c′ d g p) (λ o b. (term-top (o .0 .0) ≤ 32 + b) × (term-top (o .0 .1) ≤ 32 + b))
+  unfolding subject
+  subject-within d g p h = bind (B .infer d g p (omega arith)) λ x₁ c₁ e₁ h₁. as-parts-within sigma-parts (λ m b. (term-top (m .0) ≤ 32 + b) × (term-top (m .1) ≤ 32 + b)) (λ t m k q h. let p = sigma-top t m q in omega arith) _ (λ z. omega arith) d g p (x₁ .0) (x₁ .1) (omega arith)
+
+  find-binder-within : {b : ℕ} (d : ℕ) (g : Context) (s t : Term) (rule : ℕ) → (d + suc n ≤ 4200) × (context-top g ≤ 32 + b) × (term-top s ≤ 32 + b) × (term-top t ≤ 32 + b) → Within b (find-binder c d g s t rule) (find-binder c′ d g s t rule) (λ o b. Ready (o .type) b)
+  unfolding find-binder
+  find-binder-within d g s t rule h = bind (B .universe d g s (omega arith)) λ x₁ c₁ e₁ h₁. bind (B .universe d (Cons s g) t (omega arith)) λ x₂ c₂ e₂ h₂. bind (B .max (x₁ .0) (x₂ .0) (omega arith)) λ x₃ c₃ e₃ h₃. let p = larger-top (x₁ .0) (x₂ .0) (32 + c₃) (omega arith) in founds (Universe (larger (x₁ .0) (x₂ .0))) _ _ (kept-ready (Universe (larger (x₁ .0) (x₂ .0))) (omega arith))
+
+  find-pair-within : {b : ℕ} (d : ℕ) (g : Context) (ty ta tb s t : Term) → (d + suc n ≤ 4200) × (context-top g ≤ 32 + b) × (term-top ty ≤ 32 + b) × (term-top ta ≤ 32 + b) × (term-top tb ≤ 32 + b) × (term-top s ≤ 32 + b) × (term-top t ≤ 32 + b) → Within b (find-pair c d g ty ta tb s t) (find-pair c′ d g ty ta tb s t) (λ o b. Ready (o .type) b)
+  unfolding find-pair
+  find-pair-within d g ty ta tb s t h =
+      bind (B .universe d g ta (omega arith)) λ x₁ c₁ e₁ h₁. bind (B .universe d (Cons ta g) tb (omega arith)) λ x₂ c₂ e₂ h₂. bind (B .check d g s ta (omega arith)) λ x₃ c₃ e₃ h₃.
+      bind (B .transform tb (Subst 0 s) (omega arith)) λ x₄ c₄ e₄ h₄. bind (B .check d g (x₄ .0) (Universe (x₂ .0)) (omega arith)) λ x₅ c₅ e₅ h₅. bind (B .check d g t (x₄ .0) (omega arith)) λ x₆ c₆ e₆ h₆.
+      founds ty _ _ (kept-ready ty (omega arith))
 
   find-within : {b : ℕ} (d : ℕ) (g : Context) (t : Term) → (d + suc n ≤ 4200) × (context-top g ≤ 32 + b) × (term-top t ≤ 32 + b) → Within b (find c d g t) (find c′ d g t) (λ o b. Ready (o .type) b)
-  unfolding find find-binder
+  unfolding find
   find-within d g (Universe l) h = bind (B .ctx d g (omega arith)) λ x₁ c₁ e₁ h₁. bind (B .more l (omega arith)) λ x₂ c₂ e₂ h₂. founds (Universe x₂) _ _ (level-ready x₂ (omega arith))
   find-within d g Nat h = bind (B .ctx d g (omega arith)) λ x₁ c₁ e₁ h₁. founds (Universe 0) _ _ (kept-ready (Universe 0) (omega arith))
   find-within d g Zero h = bind (B .ctx d g (omega arith)) λ x₁ c₁ e₁ h₁. founds Nat _ _ (kept-ready Nat (omega arith))
   find-within d g (Var k) h = bind (B .ctx d g (omega arith)) λ x₁ c₁ e₁ h₁. bind (B .lookup g k (omega arith)) λ x₂ c₂ e₂ h₂. founds (x₂ .0) _ _ (kept-ready (x₂ .0) (omega arith))
-  find-within d g (Pi s t) h = bind (B .universe d g s (omega arith)) λ x₁ c₁ e₁ h₁. bind (B .universe d (Cons s g) t (omega arith)) λ x₂ c₂ e₂ h₂. bind (B .max (x₁ .0) (x₂ .0) (omega arith)) λ x₃ c₃ e₃ h₃. let p = larger-top (x₁ .0) (x₂ .0) (32 + c₃) (omega arith) in founds (Universe (larger (x₁ .0) (x₂ .0))) _ _ (kept-ready (Universe (larger (x₁ .0) (x₂ .0))) (omega arith))
+  find-within d g (Pi s t) h = find-binder-within d g s t _ (omega arith)
   find-within d g (Lam s t) h = bind (B .universe d g s (omega arith)) λ x₁ c₁ e₁ h₁. bind (B .infer d (Cons s g) t (omega arith)) λ x₂ c₂ e₂ h₂. bind (B .universe d (Cons s g) (x₂ .0) (omega arith)) λ x₃ c₃ e₃ h₃. founds (Pi s (x₂ .0)) _ _ (kept-ready (Pi s (x₂ .0)) (omega arith))
   find-within d g (App s t) h =
       bind (B .infer d g s (omega arith)) λ x₁ c₁ e₁ h₁. bind (as-pi-within d g s (x₁ .0) (x₁ .1) (omega arith)) λ x₂ c₂ e₂ h₂.
-      bind (B .check d g t (x₂ .0) (omega arith)) λ x₃ c₃ e₃ h₃. bind (B .transform (x₂ .1) (Subst 0 t) (omega arith)) λ x₄ c₄ e₄ h₄. founds (x₄ .0) _ _ (kept-ready (x₄ .0) (omega arith))
+      bind (B .check d g t (x₂ .0 .0) (omega arith)) λ x₃ c₃ e₃ h₃. bind (B .transform (x₂ .0 .1) (Subst 0 t) (omega arith)) λ x₄ c₄ e₄ h₄. founds (x₄ .0) _ _ (kept-ready (x₄ .0) (omega arith))
   find-within d g (Path s t r) h =
       bind (B .ctx d g (omega arith)) λ x₁ c₁ e₁ h₁. bind (B .dshiftctx g (omega arith)) λ x₂ c₂ e₂ h₂. bind (B .more d (omega arith)) λ x₃ c₃ e₃ h₃. bind (B .universe x₃ (x₂ .0) s (omega arith)) λ x₄ c₄ e₄ h₄.
       bind (B .transform s (DSubst 0 I0) (omega arith)) λ x₅ c₅ e₅ h₅. bind (B .transform s (DSubst 0 I1) (omega arith)) λ x₆ c₆ e₆ h₆.
@@ -673,7 +714,13 @@ module _ (n : ℕ) (c c′ : Callees) (B : Bounds n c c′) where
       bind (B .check d g (x₆ .0) (x₄ .0) (omega arith)) λ x₈ c₈ e₈ h₈. bind (B .check d g (x₇ .0) (x₅ .0) (omega arith)) λ x₉ c₉ e₉ h₉. founds (Path s (x₆ .0) (x₇ .0)) _ _ (kept-ready (Path s (x₆ .0) (x₇ .0)) (omega arith))
   find-within d g (PathApp s r) h =
       bind (B .infer d g s (omega arith)) λ x₁ c₁ e₁ h₁. bind (as-path-within d g s (x₁ .0) (x₁ .1) (omega arith)) λ x₂ c₂ e₂ h₂.
-      bind (B .interval d r (omega arith)) λ x₃ c₃ e₃ h₃. bind (B .transform (x₂ .0) (DSubst 0 r) (omega arith)) λ x₄ c₄ e₄ h₄. bind (B .universe d g (x₄ .0) (omega arith)) λ x₅ c₅ e₅ h₅. founds (x₄ .0) _ _ (kept-ready (x₄ .0) (omega arith))
+      bind (B .interval d r (omega arith)) λ x₃ c₃ e₃ h₃. bind (B .transform (x₂ .0 .0) (DSubst 0 r) (omega arith)) λ x₄ c₄ e₄ h₄. bind (B .universe d g (x₄ .0) (omega arith)) λ x₅ c₅ e₅ h₅. founds (x₄ .0) _ _ (kept-ready (x₄ .0) (omega arith))
+  find-within d g (Sigma s t) h = find-binder-within d g s t _ (omega arith)
+  find-within d g (Pair ty s t) h = cases (sigma-parts ty) (λ of q. let p = sigma-top ty of q in find-pair-within d g ty (of .0) (of .1) s t (omega arith)) (λ _. refusing (λ z. omega arith))
+  find-within d g (Fst p) h = bind (subject-within d g p (omega arith)) λ x₁ c₁ e₁ h₁. bind (B .universe d g (x₁ .0 .0) (omega arith)) λ x₂ c₂ e₂ h₂. founds (x₁ .0 .0) _ _ (kept-ready (x₁ .0 .0) (omega arith))
+  find-within d g (Snd p) h =
+      bind (subject-within d g p (omega arith)) λ x₁ c₁ e₁ h₁. bind (B .transform (x₁ .0 .1) (Subst 0 (Fst p)) (omega arith)) λ x₂ c₂ e₂ h₂. bind (B .universe d g (x₂ .0) (omega arith)) λ x₃ c₃ e₃ h₃.
+      founds (x₂ .0) _ _ (kept-ready (x₂ .0) (omega arith))
 
   new-infer-within : {b : ℕ} (d : ℕ) (g : Context) (t : Term) → (d + suc n ≤ 4200) × (context-top g ≤ 32 + b) × (term-top t ≤ 32 + b) → Within b (new-infer c d g t) (new-infer c′ d g t) Small-term
   unfolding new-infer
@@ -720,6 +767,20 @@ module _ (n : ℕ) (c c′ : Callees) (B : Bounds n c c′) where
   ends-within d g p (Meet r q) s t ty x y h = giving _ λ c e. tt
   ends-within d g p (Join r q) s t ty x y h = giving _ λ c e. tt
 
+  fst-beta-within : {b : ℕ} (d : ℕ) (g : Context) (p s : Term) → (d + suc n ≤ 4200) × (context-top g ≤ 32 + b) × (term-top p ≤ 32 + b) × (term-top s ≤ 32 + b) → Within b (fst-beta c d g p s) (fst-beta c′ d g p s) Stepped
+  unfolding fst-beta
+  fst-beta-within d g p s h =
+      bind (subject-within d g p (omega arith)) λ x₁ c₁ e₁ h₁. bind (B .check d g s (x₁ .0 .0) (omega arith)) λ x₂ c₂ e₂ h₂.
+      let a = quotes-below g in let q = quote-below (Fst p) in let u = quote-below s in let v = quote-below (x₁ .0 .0) in
+      bind (emits _ _ _ (omega arith)) λ x₃ c₃ e₃ h₃. giving _ λ c e. omega arith
+
+  snd-beta-within : {b : ℕ} (d : ℕ) (g : Context) (p s : Term) → (d + suc n ≤ 4200) × (context-top g ≤ 32 + b) × (term-top p ≤ 32 + b) × (term-top s ≤ 32 + b) → Within b (snd-beta c d g p s) (snd-beta c′ d g p s) Stepped
+  unfolding snd-beta
+  snd-beta-within d g p s h =
+      bind (subject-within d g p (omega arith)) λ x₁ c₁ e₁ h₁. bind (B .transform (x₁ .0 .1) (Subst 0 (Fst p)) (omega arith)) λ x₂ c₂ e₂ h₂. bind (B .check d g s (x₂ .0) (omega arith)) λ x₃ c₃ e₃ h₃.
+      let a = quotes-below g in let q = quote-below (Snd p) in let u = quote-below s in let v = quote-below (x₂ .0) in
+      bind (emits _ _ _ (omega arith)) λ x₄ c₄ e₄ h₄. giving _ λ c e. omega arith
+
   reduce-within : {b : ℕ} (d : ℕ) (g : Context) (t : Term) → (d + suc n ≤ 4200) × (context-top g ≤ 32 + b) × (term-top t ≤ 32 + b) → Within b (reduce-body c d g t) (reduce-body c′ d g t) Stepped
   unfolding reduce-body
   reduce-within d g (Universe l) h = giving _ λ c e. tt
@@ -732,10 +793,14 @@ module _ (n : ℕ) (c c′ : Callees) (B : Bounds n c c′) where
   reduce-within d g (Path s t r) h = giving _ λ c e. tt
   reduce-within d g (PathLam s t) h = giving _ λ c e. tt
   reduce-within d g (PathApp p r) h =
-      bind (B .infer d g p (omega arith)) λ x₁ c₁ e₁ h₁. bind (as-path-within d g p (x₁ .0) (x₁ .1) (omega arith)) λ x₂ c₂ e₂ h₂. bind (B .transform (x₂ .0) (DSubst 0 r) (omega arith)) λ x₃ c₃ e₃ h₃.
+      bind (B .infer d g p (omega arith)) λ x₁ c₁ e₁ h₁. bind (as-path-within d g p (x₁ .0) (x₁ .1) (omega arith)) λ x₂ c₂ e₂ h₂. bind (B .transform (x₂ .0 .0) (DSubst 0 r) (omega arith)) λ x₃ c₃ e₃ h₃.
       cases (plam-parts p)
       (λ ab q. let z = plam-top p ab q in pbeta-within d g p r (ab .1) (x₃ .0) _ _ (omega arith))
-      (λ _. ends-within d g p r (x₂ .1) (x₂ .2) (x₃ .0) _ _ (omega arith))
+      (λ _. ends-within d g p r (x₂ .0 .1) (x₂ .0 .2) (x₃ .0) _ _ (omega arith))
+  reduce-within d g (Sigma s t) h = giving _ λ c e. tt
+  reduce-within d g (Pair y s t) h = giving _ λ c e. tt
+  reduce-within d g (Fst p) h = cases (pair-parts p) (λ of q. let z = pair-top p of q in fst-beta-within d g p (of .1) (omega arith)) (λ _. giving _ λ c e. tt)
+  reduce-within d g (Snd p) h = cases (pair-parts p) (λ of q. let z = pair-top p of q in snd-beta-within d g p (of .2) (omega arith)) (λ _. giving _ λ c e. tt)
 
   rounds-within : {b : ℕ} (left d : ℕ) (g : Context) (t ty now : Term) (x : ℕ) → (d + suc n ≤ 4200) × (context-top g ≤ 32 + b) × (term-top t ≤ 32 + b) × (term-top ty ≤ 32 + b) × (term-top now ≤ 32 + b) → Within b (rounds left c d g t ty now x) (rounds left c′ d g t ty now x) Small-term
   unfolding rounds

@@ -15,10 +15,10 @@ use Rattle.walk.specs.State.{Row, Key, Thing, inference, Memory, State, Outcome
 use Rattle.walk.specs.Walk.Reference.{Op, Shift, Subst, DShift, DSubst, IOp, IShift, ISubst, Callees}
 use Rattle.walk.specs.Walk.Numbers.{lt-by, le-by, comparison-body, max-body}
 use Rattle.walk.specs.Walk.Intervals.{ifinish, idim-above, idim, itransform-body, interval-body}
-use Rattle.walk.specs.Walk.Transforms.{under-body, finish, tvar-above, tvar, tinterval, tbinder, transform-body}
+use Rattle.walk.specs.Walk.Transforms.{under-body, finish, tvar-above, tvar, tinterval, tbinder, tprojection, transform-body}
 use Rattle.walk.specs.Walk.Contexts.{dshiftctx-body, new-ctx, ctx-body, lookup-body}
-use Rattle.walk.specs.Walk.Typing.{expose-body, universe-body, check-body, as-pi, as-path, found, find-binder, find, new-infer, infer-body}
-use Rattle.walk.specs.Walk.Equality.{beta, at-end, pbeta, ends, reduce-body, rounds, normalize-body, equal-body}
+use Rattle.walk.specs.Walk.Typing.{expose-body, universe-body, check-body, as-parts, subject, found, find-binder, find-pair, find, new-infer, infer-body}
+use Rattle.walk.specs.Walk.Equality.{beta, at-end, pbeta, ends, fst-beta, snd-beta, reduce-body, rounds, normalize-body, equal-body}
 use Rattle.walk.specs.Walk.{none-left, entered, callees-by, one-more, callees}
 use Rattle.walk.specs.Demand.{Extends, same, more}
 use Rattle.walk.specs.Sound.Logic.{extends-trans}
@@ -276,7 +276,7 @@ module _ (c : Callees) (L : All-lead c) where
   tinterval-leads r (DSubst k q) = search (combinators, L .itransform)
 
   transform-leads : (t : Term) (op : Op) → Leads (transform-body c t op)
-  unfolding transform-body tbinder finish
+  unfolding transform-body tbinder tprojection finish
   transform-leads (Universe l) op = search combinators
   transform-leads (Var n) op = search tvar-leads
   transform-leads Nat op = search combinators
@@ -287,6 +287,10 @@ module _ (c : Callees) (L : All-lead c) where
   transform-leads (Path a b e) op = search (combinators, L .transform, L .under) depth 10
   transform-leads (PathLam a b) op = search (combinators, L .transform, L .under) depth 10
   transform-leads (PathApp p r) op = search (combinators, L .transform, tinterval-leads) depth 10
+  transform-leads (Sigma a b) op = search (combinators, L .transform, L .under) depth 10
+  transform-leads (Pair ty a b) op = search (combinators, L .transform) depth 10
+  transform-leads (Fst p) op = search (combinators, L .transform)
+  transform-leads (Snd p) op = search (combinators, L .transform)
 
   dshiftctx-leads : (g : Context) → Leads (dshiftctx-body c g)
   unfolding dshiftctx-body
@@ -320,30 +324,34 @@ module _ (c : Callees) (L : All-lead c) where
   unfolding check-body
   check-leads d g t ty = search (combinators, L .infer, L .universe, L .equal) depth 10
 
-  as-pi-leads : (d : ℕ) (g : Context) (f ty : Term) (row : ℕ) → Leads (as-pi c d g f ty row)
-  unfolding as-pi
-  as-pi-leads d g f ty row = search (combinators, L .expose) depth 10
+  as-parts-leads : {A : Type 0} (parts : Term → Option A) (refusal d : ℕ) (g : Context) (t ty : Term) (row : ℕ) → Leads (as-parts parts refusal c d g t ty row)
+  unfolding as-parts
+  as-parts-leads parts refusal d g t ty row = search (combinators, L .expose) depth 10
 
-  as-path-leads : (d : ℕ) (g : Context) (p ty : Term) (row : ℕ) → Leads (as-path c d g p ty row)
-  unfolding as-path
-  as-path-leads d g p ty row = search (combinators, L .expose) depth 10
+  subject-leads : (d : ℕ) (g : Context) (p : Term) → Leads (subject c d g p)
+  unfolding subject
+  subject-leads d g p = search (combinators, L .infer, as-parts-leads)
 
   founds : (ty : Term) (refs : List ℕ) (rule : ℕ) → Leads (found ty refs rule)
   unfolding found
   founds ty refs rule = search combinators
 
   find-leads : (d : ℕ) (g : Context) (t : Term) → Leads (find c d g t)
-  unfolding find find-binder
+  unfolding find find-binder find-pair
   find-leads d g (Universe l) = search (combinators, founds, L .ctx, L .more)
   find-leads d g Nat = search (combinators, founds, L .ctx)
   find-leads d g Zero = search (combinators, founds, L .ctx)
   find-leads d g (Var n) = search (combinators, founds, L .ctx, L .lookup)
   find-leads d g (Pi a b) = search (combinators, founds, L .universe, L .max)
   find-leads d g (Lam a b) = search (combinators, founds, L .universe, L .infer)
-  find-leads d g (App f a) = search (combinators, founds, L .infer, as-pi-leads, L .check, L .transform)
+  find-leads d g (App f a) = search (combinators, founds, L .infer, as-parts-leads, L .check, L .transform)
   find-leads d g (Path a b e) = search (combinators, founds, L .ctx, L .dshiftctx, L .more, L .universe, L .check, L .transform) depth 20
   find-leads d g (PathLam a b) = search (combinators, founds, L .ctx, L .dshiftctx, L .more, L .universe, L .check, L .transform) depth 20
-  find-leads d g (PathApp p r) = search (combinators, founds, L .infer, as-path-leads, L .interval, L .transform, L .universe) depth 10
+  find-leads d g (PathApp p r) = search (combinators, founds, L .infer, as-parts-leads, L .interval, L .transform, L .universe) depth 10
+  find-leads d g (Sigma a b) = search (combinators, founds, L .universe, L .max)
+  find-leads d g (Pair ty a b) = search (combinators, founds, L .universe, L .check, L .transform) depth 10
+  find-leads d g (Fst p) = search (combinators, founds, subject-leads, L .universe)
+  find-leads d g (Snd p) = search (combinators, founds, subject-leads, L .transform, L .universe)
 
   infer-leads : (d : ℕ) (g : Context) (t : Term) → Leads (infer-body c d g t)
   unfolding infer-body new-infer
@@ -371,7 +379,7 @@ module _ (c : Callees) (L : All-lead c) where
   ends-leads d g p (Join r q) b e ty x y = search combinators
 
   reduce-leads : (d : ℕ) (g : Context) (t : Term) → Leads (reduce-body c d g t)
-  unfolding reduce-body
+  unfolding reduce-body fst-beta snd-beta
   reduce-leads d g (Universe l) = search combinators
   reduce-leads d g (Var n) = search combinators
   reduce-leads d g Nat = search combinators
@@ -381,7 +389,11 @@ module _ (c : Callees) (L : All-lead c) where
   reduce-leads d g (App f r) = search (combinators, beta-leads)
   reduce-leads d g (Path a b e) = search combinators
   reduce-leads d g (PathLam a b) = search combinators
-  reduce-leads d g (PathApp p r) = search (combinators, L .infer, as-path-leads, L .transform, pbeta-leads, ends-leads) depth 10
+  reduce-leads d g (PathApp p r) = search (combinators, L .infer, as-parts-leads, L .transform, pbeta-leads, ends-leads) depth 10
+  reduce-leads d g (Sigma a b) = search combinators
+  reduce-leads d g (Pair ty a b) = search combinators
+  reduce-leads d g (Fst p) = search (combinators, subject-leads, L .check) depth 10
+  reduce-leads d g (Snd p) = search (combinators, subject-leads, L .transform, L .check) depth 10
 
   rounds-leads : (n d : ℕ) (g : Context) (t ty now : Term) (row : ℕ) → Leads (rounds n c d g t ty now row)
   unfolding rounds

@@ -2,7 +2,7 @@
 use Prim.Native.Nat.{ℕ, _≤_, max}
 use mathlib.Core.List.{List, [], _∷_}
 use Rattle.walk.specs.Syntax.{Interval, I0, I1, Dim, Neg, Meet, Join, Term, Universe, Var, Nat, Zero, Pi, Lam, App, Path, PathLam, PathApp, Sigma, Pair, Fst, Snd, Context, Nil, Cons, Quote, u, v, nat, zero, pi, lam, app, path, plam, papp, sigma, pair, fst, snd, Quotes, nil, cons}
-use Rattle.walk.specs.Judgment.{Judgment, ctx, dshiftctx, lookup, lt, le, max, interval, ishift, isubst, shift, subst, dshift, dsubst, has, eq}
+use Rattle.walk.specs.Judgment.{Judgment, ctx, dshiftctx, lookup, lt, le, max as is-max, interval, ishift, isubst, shift, subst, dshift, dsubst, has, eq}
 use Rattle.walk.specs.State.{Key, key, Thing, term, context, inference, Memory, State}
 use Rattle.walk.specs.Run.{Result, no-result, a-level, a-term, Ran}
 
@@ -12,15 +12,19 @@ largest = 65535
 
 -- A dimension of an interval; an index, a level or a dimension of a term, its annotations included. 0 where there is none.
 abbrev pub interval-top : Interval → ℕ
+-- written by tools/written.py: numbers of an interval
 interval-top I0 = 0
 interval-top I1 = 0
 interval-top (Dim n) = n
-interval-top (Neg r) = interval-top r
-interval-top (Meet r q) = max (interval-top r) (interval-top q)
-interval-top (Join r q) = max (interval-top r) (interval-top q)
+interval-top (Neg a) = interval-top a
+interval-top (Meet a b) = max (interval-top a) (interval-top b)
+interval-top (Join a b) = max (interval-top a) (interval-top b)
+
+-- end of numbers of an interval
 
 abbrev pub term-top : Term → ℕ
-term-top (Universe l) = l
+-- written by tools/written.py: numbers of a term
+term-top (Universe n) = n
 term-top (Var n) = n
 term-top Nat = 0
 term-top Zero = 0
@@ -29,7 +33,13 @@ term-top (Lam a b) = max (term-top a) (term-top b)
 term-top (App a b) = max (term-top a) (term-top b)
 term-top (Path a b c) = max (term-top a) (max (term-top b) (term-top c))
 term-top (PathLam a b) = max (term-top a) (term-top b)
-term-top (PathApp a r) = max (term-top a) (interval-top r)
+term-top (PathApp a b) = max (term-top a) (interval-top b)
+term-top (Sigma a b) = max (term-top a) (term-top b)
+term-top (Pair a b c) = max (term-top a) (max (term-top b) (term-top c))
+term-top (Fst a) = term-top a
+term-top (Snd a) = term-top a
+
+-- end of numbers of a term
 
 abbrev pub context-top : Context → ℕ
 context-top Nil = 0
@@ -37,7 +47,8 @@ context-top (Cons a g) = max (term-top a) (context-top g)
 
 -- The same of quotes, which have no annotations.
 abbrev pub quote-top : Quote → ℕ
-quote-top (u l) = l
+-- written by tools/written.py: numbers of a quote
+quote-top (u n) = n
 quote-top (v n) = n
 quote-top nat = 0
 quote-top zero = 0
@@ -46,7 +57,13 @@ quote-top (lam b) = quote-top b
 quote-top (app a b) = max (quote-top a) (quote-top b)
 quote-top (path a b c) = max (quote-top a) (max (quote-top b) (quote-top c))
 quote-top (plam b) = quote-top b
-quote-top (papp a r) = max (quote-top a) (interval-top r)
+quote-top (papp a b) = max (quote-top a) (interval-top b)
+quote-top (sigma a b) = max (quote-top a) (quote-top b)
+quote-top (pair b c) = max (quote-top b) (quote-top c)
+quote-top (fst a) = quote-top a
+quote-top (snd a) = quote-top a
+
+-- end of numbers of a quote
 
 abbrev pub quotes-top : Quotes → ℕ
 quotes-top nil = 0
@@ -59,7 +76,7 @@ judgment-top (dshiftctx g k h) = max k (max (quotes-top g) (quotes-top h))
 judgment-top (lookup g n t) = max n (max (quotes-top g) (quote-top t))
 judgment-top (lt m n) = max m n
 judgment-top (le m n) = max m n
-judgment-top (Judgment.max m n k) = max m (max n k)
+judgment-top (is-max m n k) = max m (max n k)
 judgment-top (interval d r) = max d (interval-top r)
 judgment-top (ishift r k q) = max k (max (interval-top r) (interval-top q))
 judgment-top (isubst r k q p) = max k (max (interval-top r) (max (interval-top q) (interval-top p)))

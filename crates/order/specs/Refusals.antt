@@ -15,7 +15,7 @@ use Rattle.walk.specs.State.{Thing, State, Outcome, done, refused, M, go-on, lo
 use Rattle.walk.specs.Walk.Reference.{Op, Shift, Subst, DShift, DSubst, IOp, IShift, ISubst, Callees}
 use Rattle.walk.specs.Walk.Numbers.{lt-by, le-by, comparison-body, max-body}
 use Rattle.walk.specs.Walk.Intervals.{ifinish, idim-above, idim, itransform-body, interval-body}
-use Rattle.walk.specs.Walk.Transforms.{under-body, finish, tvar-above, tvar, tinterval, tbinder, transform-body}
+use Rattle.walk.specs.Walk.Transforms.{under-body, finish, tvar-above, tvar, tinterval, tbinder, tprojection, transform-body}
 use Rattle.walk.specs.Walk.Contexts.{dshiftctx-body, lookup-body}
 use Rattle.walk.specs.Walk.{none-left, entered, callees-by, one-more, callees}
 
@@ -252,7 +252,7 @@ module _ (c : Callees) (R : Refusals c) where
   tinterval-only r (DSubst k q) = search (combinators, R .itransform)
 
   transform-only : (t : Term) (op : Op) → Only Full (transform-body c t op)
-  unfolding transform-body tbinder
+  unfolding transform-body tbinder tprojection
   transform-only (Universe l) op = search finish-only
   transform-only (Var n) op = search tvar-only
   transform-only Nat op = search finish-only
@@ -263,6 +263,10 @@ module _ (c : Callees) (R : Refusals c) where
   transform-only (Path a b e) op = search (combinators, finish-only, R .transform, R .under) depth 10
   transform-only (PathLam a b) op = search (combinators, finish-only, R .transform, R .under) depth 10
   transform-only (PathApp p r) op = search (combinators, finish-only, R .transform, tinterval-only) depth 10
+  transform-only (Sigma a b) op = search (combinators, finish-only, R .transform, R .under) depth 10
+  transform-only (Pair ty a b) op = search (combinators, finish-only, R .transform) depth 10
+  transform-only (Fst p) op = search (combinators, finish-only, R .transform)
+  transform-only (Snd p) op = search (combinators, finish-only, R .transform)
 
   dshiftctx-only : (g : Context) → Only Full (dshiftctx-body c g)
   unfolding dshiftctx-body

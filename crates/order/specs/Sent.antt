@@ -57,17 +57,21 @@ inner depth h = let k = leaf depth 0 on h in record { low = λ nodes n e. let x 
 
 interval-low : (r : Interval) (depth : ℕ) → Low (size-interval r depth) (interval-top r)
 unfolding size-interval
+-- written by tools/written.py: numbers that are sent in an interval
 interval-low I0 depth = leaf depth 0
 interval-low I1 depth = leaf depth 0
-interval-low (Dim i) depth = leaf depth i
+interval-low (Dim n) depth = leaf depth n
 interval-low (Neg a) depth = inner depth (interval-low a (depth + 1))
 interval-low (Meet a b) depth = inner depth (interval-low a (depth + 1) on interval-low b (depth + 1))
 interval-low (Join a b) depth = inner depth (interval-low a (depth + 1) on interval-low b (depth + 1))
 
+-- end of numbers that are sent in an interval
+
 term-low : (t : Term) (depth : ℕ) → Low (size-term t depth) (term-top t)
 unfolding size-term
-term-low (Universe l) depth = leaf depth l
-term-low (Var i) depth = leaf depth i
+-- written by tools/written.py: numbers that are sent in a term
+term-low (Universe n) depth = leaf depth n
+term-low (Var n) depth = leaf depth n
 term-low Nat depth = leaf depth 0
 term-low Zero depth = leaf depth 0
 term-low (Pi a b) depth = inner depth (term-low a (depth + 1) on term-low b (depth + 1))
@@ -75,7 +79,13 @@ term-low (Lam a b) depth = inner depth (term-low a (depth + 1) on term-low b (de
 term-low (App a b) depth = inner depth (term-low a (depth + 1) on term-low b (depth + 1))
 term-low (Path a b c) depth = inner depth (term-low a (depth + 1) on (term-low b (depth + 1) on term-low c (depth + 1)))
 term-low (PathLam a b) depth = inner depth (term-low a (depth + 1) on term-low b (depth + 1))
-term-low (PathApp a r) depth = inner depth (term-low a (depth + 1) on interval-low r (depth + 1))
+term-low (PathApp a b) depth = inner depth (term-low a (depth + 1) on interval-low b (depth + 1))
+term-low (Sigma a b) depth = inner depth (term-low a (depth + 1) on term-low b (depth + 1))
+term-low (Pair a b c) depth = inner depth (term-low a (depth + 1) on (term-low b (depth + 1) on term-low c (depth + 1)))
+term-low (Fst a) depth = inner depth (term-low a (depth + 1))
+term-low (Snd a) depth = inner depth (term-low a (depth + 1))
+
+-- end of numbers that are sent in a term
 
 -- terms with no number above 32
 abbrev pub Lows : List Term → Type 0

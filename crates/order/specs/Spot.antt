@@ -15,12 +15,13 @@ use Rattle.walk.specs.State.{Thing, thing?, State, Outcome, done, refused, M, g
 use Rattle.walk.specs.Walk.Reference.{Op, Shift, Subst, DShift, DSubst, IOp, IShift, ISubst, Callees, of-op, of-iop}
 use Rattle.walk.specs.Walk.Numbers.{lt-by, le-by, comparison-body, max-body}
 use Rattle.walk.specs.Walk.Intervals.{idim-above, idim, itransform-body, interval-body}
-use Rattle.walk.specs.Walk.Transforms.{under-body, tvar-above, tvar, tbinder, transform-body}
+use Rattle.walk.specs.Walk.Transforms.{under-body, tvar-above, tvar, tbinder, tprojection, transform-body}
 use Rattle.walk.specs.Walk.Contexts.{dshiftctx-body, new-ctx, ctx-body, lookup-body}
-use Rattle.walk.specs.Walk.Typing.{expose-body, universe-body, check-body, find-binder, find, new-infer, infer-body}
-use Rattle.walk.specs.Walk.Equality.{beta, reduce-body, normalize-body, equal-body}
+use Rattle.walk.specs.Walk.Typing.{expose-body, universe-body, check-body, level, pi-parts, lam-parts, path-parts, plam-parts, sigma-parts, pair-parts, subject, find-binder, find-pair, find, new-infer, infer-body}
+use Rattle.walk.specs.Walk.Equality.{beta, fst-beta, snd-beta, reduce-body, normalize-body, equal-body}
 use Rattle.walk.specs.Walk.{none-left, entered, one-more, callees-by, callees}
 use Rattle.walk.specs.Refusal as R
+use Rattle.walk.specs.Sound.Parts.{lam-is, sigma-is}
 
 -- with nothing left each is refused
 abbrev refusing : Callees
@@ -184,6 +185,9 @@ plus xs ys h k = h +++ k
 part-of : {cells : List Thing} (gs xs ys zs : List Thing) → Counted cells (gs ++ (xs ++ ys ++ zs)) → Counted cells (gs ++ xs)
 part-of gs xs ys zs h = plus gs xs (left-of gs (xs ++ ys ++ zs) h) (left-of xs ys (left-of (xs ++ ys) zs (right-of gs (xs ++ ys ++ zs) h)))
 
+front-of : {cells : List Thing} (gs xs ys : List Thing) → Counted cells (gs ++ (xs ++ ys)) → Counted cells (gs ++ xs)
+front-of gs xs ys h = plus gs xs (left-of gs (xs ++ ys) h) (left-of xs ys (right-of gs (xs ++ ys) h))
+
 operand-of : {cells : List Thing} (xs ys zs op : List Thing) → Counted cells (xs ++ ys ++ zs ++ op) → Counted cells (xs ++ op)
 operand-of xs ys zs op h = plus xs op (left-of xs ys (left-of (xs ++ ys) zs (left-of (xs ++ ys ++ zs) op h))) (right-of (xs ++ ys ++ zs) op h)
 
@@ -215,34 +219,45 @@ equal-alike : (d : ℕ) (g : Context) (a b ty : Term) → Alike (of-context g ++
 unfolding equal-body none-left counted-first
 equal-alike d g a b ty = stopped (stops-then _ _ (stops-here _ _ _ λ cells h. first-third (of-context g ++ of-term a) (of-term b) (of-term ty) h))
 
-beta-alike : (d : ℕ) (g : Context) (f r : Term) → Alike (of-context g ++ of-term (App f r)) (reduce-body refusing d g (App f r)) (reduce-body counted-first d g (App f r))
-unfolding reduce-body from_get_or_ beta none-left counted-first
-beta-alike d g (Universe l) r = unchanged _
-beta-alike d g (Var n) r = unchanged _
-beta-alike d g Nat r = unchanged _
-beta-alike d g Zero r = unchanged _
-beta-alike d g (Pi a b) r = unchanged _
-beta-alike d g (Lam a b) r = stopped (stops-then _ _ (stops-here _ _ _ λ cells h. part-of (of-context g) (of-term a) (of-term b) _ (part-of (of-context g) (of-term (Lam a b)) (of-term r) _ h)))
-beta-alike d g (App f a) r = unchanged _
-beta-alike d g (Path a b e) r = unchanged _
-beta-alike d g (PathLam a b) r = unchanged _
-beta-alike d g (PathApp p q) r = unchanged _
+-- what is taken apart, or not
+taken-alike : {A X : Type 0} {xs : List Thing} {f g : X → M A} (parts : Option X) (z : M A) → ((x : X) → parts ≡ some x → Alike xs (f x) (g x)) → Alike xs (from parts get f or z) (from parts get g or z)
+unfolding from_get_or_
+taken-alike none z h = unchanged z
+taken-alike (some x) z h = h x refl
+
+taken-stops : {A X : Type 0} {xs : List Thing} {f g : X → M A} (parts : Option X) (n : ℕ) → ((x : X) → parts ≡ some x → Stops xs (f x) (g x)) → Stops xs (from parts get f or refuse n) (from parts get g or refuse n)
+unfolding from_get_or_ refuse
+taken-stops none n h = record { number = n; stops = λ s. refl; alike = λ s k. refl }
+taken-stops (some x) n h = h x refl
+
+beta-alike : (d : ℕ) (g : Context) (a b r : Term) → Alike (of-context g ++ of-term (App (Lam a b) r)) (beta refusing d g a b r) (beta counted-first d g a b r)
+unfolding beta none-left counted-first
+beta-alike d g a b r = stopped (stops-then _ _ (stops-here _ _ _ λ cells h. part-of (of-context g) (of-term a) (of-term b) _ (part-of (of-context g) (of-term (Lam a b)) (of-term r) _ h)))
+
+-- the subject of a projection is a part of it
+subject-stops : (d : ℕ) (g : Context) (p : Term) (xs : List Thing) → Stops (of-context g ++ (of-term p ++ xs)) (subject refusing d g p) (subject counted-first d g p)
+unfolding subject none-left counted-first
+subject-stops d g p xs = stops-then _ _ (stops-here _ _ _ λ cells h. front-of (of-context g) (of-term p) xs h)
 
 reduce-alike : (d : ℕ) (g : Context) (t : Term) → Alike (of-context g ++ of-term t) (reduce-body refusing d g t) (reduce-body counted-first d g t)
-unfolding reduce-body none-left counted-first
+unfolding reduce-body fst-beta snd-beta none-left counted-first
 reduce-alike d g (Universe l) = unchanged _
 reduce-alike d g (Var n) = unchanged _
 reduce-alike d g Nat = unchanged _
 reduce-alike d g Zero = unchanged _
 reduce-alike d g (Pi a b) = unchanged _
 reduce-alike d g (Lam a b) = unchanged _
-reduce-alike d g (App f r) = beta-alike d g f r
+reduce-alike d g (App f r) = taken-alike (lam-parts f) _ λ ab q. rw (lam-is f ab q) (beta-alike d g (ab .0) (ab .1) r)
 reduce-alike d g (Path a b e) = unchanged _
 reduce-alike d g (PathLam a b) = unchanged _
 reduce-alike d g (PathApp p r) = stopped (stops-then _ _ (stops-here _ _ _ λ cells h. part-of (of-context g) (of-term p) (of-interval r) _ h))
+reduce-alike d g (Sigma a b) = unchanged _
+reduce-alike d g (Pair ty a b) = unchanged _
+reduce-alike d g (Fst p) = taken-alike (pair-parts p) _ λ _ _. stopped (stops-then _ _ (subject-stops d g p _))
+reduce-alike d g (Snd p) = taken-alike (pair-parts p) _ λ _ _. stopped (stops-then _ _ (subject-stops d g p _))
 
 find-stops : (d : ℕ) (g : Context) (t : Term) → Stops (of-context g ++ of-term t) (find refusing d g t) (find counted-first d g t)
-unfolding find find-binder none-left counted-first
+unfolding find find-binder find-pair none-left counted-first
 find-stops d g (Universe l) = stops-then _ _ (stops-here _ _ _ λ cells h. left-of (of-context g) _ h)
 find-stops d g (Var n) = stops-then _ _ (stops-here _ _ _ λ cells h. left-of (of-context g) _ h)
 find-stops d g Nat = stops-then _ _ (stops-here _ _ _ λ cells h. left-of (of-context g) _ h)
@@ -253,6 +268,10 @@ find-stops d g (App f a) = stops-then _ _ (stops-here _ _ _ λ cells h. part-of 
 find-stops d g (Path a b e) = stops-then _ _ (stops-here _ _ _ λ cells h. left-of (of-context g) _ h)
 find-stops d g (PathLam a b) = stops-then _ _ (stops-here _ _ _ λ cells h. left-of (of-context g) _ h)
 find-stops d g (PathApp p r) = stops-then _ _ (stops-here _ _ _ λ cells h. part-of (of-context g) (of-term p) (of-interval r) _ h)
+find-stops d g (Sigma a b) = stops-then _ _ (stops-here _ _ _ λ cells h. part-of (of-context g) (of-term a) (of-term b) _ h)
+find-stops d g (Pair ty a b) = taken-stops (sigma-parts ty) _ λ of q. rw (sigma-is ty of q) (stops-then _ _ (stops-here _ _ _ λ cells h. part-of (of-context g) (of-term (of .0)) (of-term (of .1)) _ (front-of (of-context g) (of-term (Sigma (of .0) (of .1))) (of-term a) (part-of (of-context g) (of-term (Sigma (of .0) (of .1)) ++ of-term a) (of-term b) _ h))))
+find-stops d g (Fst p) = stops-then _ _ (subject-stops d g p _)
+find-stops d g (Snd p) = stops-then _ _ (subject-stops d g p _)
 
 infer-alike : (d : ℕ) (g : Context) (t : Term) → Alike (of-context g ++ of-term t) (infer-body refusing d g t) (infer-body counted-first d g t)
 unfolding infer-body new-infer
@@ -346,7 +365,7 @@ tvar-same n (DShift k) = refl
 tvar-same n (DSubst k r) = refl
 
 transform-alike : (t : Term) (op : Op) → Alike (of-term t ++ of-op op) (transform-body refusing t op) (transform-body counted-first t op)
-unfolding transform-body tbinder none-left counted-first
+unfolding transform-body tbinder tprojection none-left counted-first
 transform-alike (Universe l) op = unchanged _
 transform-alike (Var n) op = rw (tvar-same n op) (unchanged _)
 transform-alike Nat op = unchanged _
@@ -357,6 +376,10 @@ transform-alike (App f a) op = stopped (stops-then _ _ (stops-here _ _ _ λ cell
 transform-alike (Path a b e) op = stopped (stops-then _ _ (stops-here _ _ _ λ cells h. right-of (of-term (Path a b e)) (of-op op) h))
 transform-alike (PathLam a b) op = stopped (stops-then _ _ (stops-here _ _ _ λ cells h. right-of (of-term (PathLam a b)) (of-op op) h))
 transform-alike (PathApp p r) op = stopped (stops-then _ _ (stops-here _ _ _ λ cells h. operand-of (of-term p) (of-interval r) _ (of-op op) h))
+transform-alike (Sigma a b) op = stopped (stops-then _ _ (stops-here _ _ _ λ cells h. operand-of (of-term a) (of-term b) _ (of-op op) h))
+transform-alike (Pair ty a b) op = stopped (stops-then _ _ (stops-here _ _ _ λ cells h. first-third (of-term ty) (of-term a) (of-op op) (operand-of (of-term ty ++ of-term a) (of-term b) _ (of-op op) h)))
+transform-alike (Fst p) op = stopped (stops-then _ _ (stops-here _ _ _ λ cells h. first-third (of-term p) _ (of-op op) h))
+transform-alike (Snd p) op = stopped (stops-then _ _ (stops-here _ _ _ λ cells h. first-third (of-term p) _ (of-op op) h))
 
 -- with one entry left
 late-one : entered 0 counted-first ≡ entered 0 refusing
