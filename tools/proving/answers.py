@@ -17,6 +17,7 @@ UNFOLD = {
     'find': 'find-compound',
     'path': 'path-ends',
     'plam': 'plam-ends',
+    'pair': 'pair-at',
     'along': 'at-ends',
     'equal': 'equal-normal',
     'deeper': 'deeper-of',

@@ -745,10 +745,10 @@ module _ (n : ℕ) (c c′ : Callees) (B : Bounds n c c′) where
       let p = quotes-below g in let q = quote-below (App (Lam s t) r) in let u = quote-below (x₅ .0) in let v = quote-below (x₆ .0) in
       bind (emits _ _ _ (omega arith)) λ x₇ c₇ e₇ h₇. giving _ λ c e. omega arith
 
-  at-end-within : {b : ℕ} (d : ℕ) (g : Context) (p : Term) (r : Interval) (out ty : Term) (x y rule : ℕ) → (d + suc n ≤ 4200) × (context-top g ≤ 32 + b) × (term-top p ≤ 32 + b) × (interval-top r ≤ 32 + b) × (term-top out ≤ 32 + b) × (term-top ty ≤ 32 + b) → Within b (at-end c d g p r out ty x y rule) (at-end c′ d g p r out ty x y rule) Stepped
+  at-end-within : {b : ℕ} (d : ℕ) (g : Context) (t out ty : Term) (x y rule : ℕ) → (d + suc n ≤ 4200) × (context-top g ≤ 32 + b) × (term-top t ≤ 32 + b) × (term-top out ≤ 32 + b) × (term-top ty ≤ 32 + b) → Within b (at-end c d g t out ty x y rule) (at-end c′ d g t out ty x y rule) Stepped
   unfolding at-end
-  at-end-within d g p r out ty x y rule h =
-      bind (B .check d g out ty (omega arith)) λ x₁ c₁ e₁ h₁. let a = quotes-below g in let q = quote-below (PathApp p r) in let u = quote-below out in let v = quote-below ty in
+  at-end-within d g t out ty x y rule h =
+      bind (B .check d g out ty (omega arith)) λ x₁ c₁ e₁ h₁. let a = quotes-below g in let q = quote-below t in let u = quote-below out in let v = quote-below ty in
       bind (emits _ _ _ (omega arith)) λ x₂ c₂ e₂ h₂. giving _ λ c e. omega arith
 
   pbeta-within : {b : ℕ} (d : ℕ) (g : Context) (p : Term) (r : Interval) (t ty : Term) (x y : ℕ) → (d + suc n ≤ 4200) × (context-top g ≤ 32 + b) × (term-top p ≤ 32 + b) × (interval-top r ≤ 32 + b) × (term-top t ≤ 32 + b) × (term-top ty ≤ 32 + b) → Within b (pbeta c d g p r t ty x y) (pbeta c′ d g p r t ty x y) Stepped
@@ -760,8 +760,8 @@ module _ (n : ℕ) (c c′ : Callees) (B : Bounds n c c′) where
 
   ends-within : {b : ℕ} (d : ℕ) (g : Context) (p : Term) (r : Interval) (s t ty : Term) (x y : ℕ) → (d + suc n ≤ 4200) × (context-top g ≤ 32 + b) × (term-top p ≤ 32 + b) × (interval-top r ≤ 32 + b) × (term-top s ≤ 32 + b) × (term-top t ≤ 32 + b) × (term-top ty ≤ 32 + b) → Within b (ends c d g p r s t ty x y) (ends c′ d g p r s t ty x y) Stepped
   unfolding ends
-  ends-within d g p I0 s t ty x y h = at-end-within d g p I0 s ty x y _ (omega arith)
-  ends-within d g p I1 s t ty x y h = at-end-within d g p I1 t ty x y _ (omega arith)
+  ends-within d g p I0 s t ty x y h = at-end-within d g (PathApp p I0) s ty x y _ (omega arith)
+  ends-within d g p I1 s t ty x y h = at-end-within d g (PathApp p I1) t ty x y _ (omega arith)
   ends-within d g p (Dim z) s t ty x y h = giving _ λ c e. tt
   ends-within d g p (Neg r) s t ty x y h = giving _ λ c e. tt
   ends-within d g p (Meet r q) s t ty x y h = giving _ λ c e. tt
@@ -777,9 +777,8 @@ module _ (n : ℕ) (c c′ : Callees) (B : Bounds n c c′) where
   snd-beta-within : {b : ℕ} (d : ℕ) (g : Context) (p s : Term) → (d + suc n ≤ 4200) × (context-top g ≤ 32 + b) × (term-top p ≤ 32 + b) × (term-top s ≤ 32 + b) → Within b (snd-beta c d g p s) (snd-beta c′ d g p s) Stepped
   unfolding snd-beta
   snd-beta-within d g p s h =
-      bind (subject-within d g p (omega arith)) λ x₁ c₁ e₁ h₁. bind (B .transform (x₁ .0 .1) (Subst 0 (Fst p)) (omega arith)) λ x₂ c₂ e₂ h₂. bind (B .check d g s (x₂ .0) (omega arith)) λ x₃ c₃ e₃ h₃.
-      let a = quotes-below g in let q = quote-below (Snd p) in let u = quote-below s in let v = quote-below (x₂ .0) in
-      bind (emits _ _ _ (omega arith)) λ x₄ c₄ e₄ h₄. giving _ λ c e. omega arith
+      bind (subject-within d g p (omega arith)) λ x₁ c₁ e₁ h₁. bind (B .transform (x₁ .0 .1) (Subst 0 (Fst p)) (omega arith)) λ x₂ c₂ e₂ h₂.
+      at-end-within d g (Snd p) s (x₂ .0) _ _ _ (omega arith)
 
   reduce-within : {b : ℕ} (d : ℕ) (g : Context) (t : Term) → (d + suc n ≤ 4200) × (context-top g ≤ 32 + b) × (term-top t ≤ 32 + b) → Within b (reduce-body c d g t) (reduce-body c′ d g t) Stepped
   unfolding reduce-body

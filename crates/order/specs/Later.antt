@@ -361,9 +361,9 @@ module _ (c : Callees) (L : All-lead c) where
   unfolding beta
   beta-leads d g a body r = search (combinators, L .universe, L .infer, L .check, L .transform) depth 10
 
-  at-end-leads : (d : ℕ) (g : Context) (p : Term) (r : Interval) (out ty : Term) (x y rule : ℕ) → Leads (at-end c d g p r out ty x y rule)
+  at-end-leads : (d : ℕ) (g : Context) (t out ty : Term) (x y rule : ℕ) → Leads (at-end c d g t out ty x y rule)
   unfolding at-end
-  at-end-leads d g p r out ty x y rule = search (combinators, L .check)
+  at-end-leads d g t out ty x y rule = search (combinators, L .check)
 
   pbeta-leads : (d : ℕ) (g : Context) (p : Term) (r : Interval) (body ty : Term) (x y : ℕ) → Leads (pbeta c d g p r body ty x y)
   unfolding pbeta
@@ -393,7 +393,7 @@ module _ (c : Callees) (L : All-lead c) where
   reduce-leads d g (Sigma a b) = search combinators
   reduce-leads d g (Pair ty a b) = search combinators
   reduce-leads d g (Fst p) = search (combinators, subject-leads, L .check) depth 10
-  reduce-leads d g (Snd p) = search (combinators, subject-leads, L .transform, L .check) depth 10
+  reduce-leads d g (Snd p) = search (combinators, subject-leads, L .transform, at-end-leads) depth 10
 
   rounds-leads : (n d : ℕ) (g : Context) (t ty now : Term) (row : ℕ) → Leads (rounds n c d g t ty now row)
   unfolding rounds

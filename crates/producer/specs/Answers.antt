@@ -60,6 +60,10 @@ unfoldable pub function-as-inferred : Function → Inferred
 function-as-inferred (function.Of s _ _ _) = inferred.Refused s 0
 function-as-inferred (function.Refused s e) = inferred.Refused s e
 
+unfoldable pub function-as-reduced : Function → Reduced
+function-as-reduced (function.Of s _ _ _) = reduced.Refused s 0
+function-as-reduced (function.Refused s e) = reduced.Refused s e
+
 unfoldable pub four-as-inferred : Four → Inferred
 four-as-inferred (four.Each s _ _ _ _) = inferred.Refused s 0
 four-as-inferred (four.Refused s e) = inferred.Refused s e

@@ -5,9 +5,9 @@ use lib.Dec.{eqb}
 use Rattle.producer.specs.declared.transforms.Op.the-variants.{Subst, DSubst}
 use Rattle.walk.specs.Rule as R
 use Rattle.walk.specs.Refusal as Refusal
-use Rattle.producer.specs.Machine.{W, Reduction, _>>=_, give, stop, when_then_else_, open-cell, same-quote, at-lam, at-plam, make-cons, emit-eq, refs-1, refs-2, refs-3, refs-5, refs-6}
+use Rattle.producer.specs.Machine.{W, Reduction, _>>=_, give, stop, when_then_else_, open-cell, same-quote, at-universe, at-pi, at-lam, at-path, at-plam, at-sigma, at-pair, make-fst, make-cons, emit-eq, refs-1, refs-2, refs-3, refs-5, refs-6}
 use Rattle.producer.specs.Callees.{Callees, for-call}
-use Rattle.producer.specs.Typing.{as-path}
+use Rattle.producer.specs.Typing.{as-path, subject}
 
 unfoldable pub beta-row : Callees → (d g t body r b x y z arg : ℕ) → W (Option Reduction)
 beta-row c d g t body r b x y z arg = do
@@ -24,7 +24,7 @@ beta c d g t a body r = do
   arg ← c .check d g r a
   beta-row c d g t body r b x y z arg
 
--- an end of the path that a papp's path is
+-- t goes to out, of a type that its parts have given: an end of a path, the second part of a pair
 unfoldable pub at-end : Callees → (d g t out ty x y rule : ℕ) → W (Option Reduction)
 at-end c d g t out ty x y rule = do
   typed ← c .check d g out ty
@@ -53,11 +53,29 @@ reduce-papp c d g t p r = do
   (ty, y) ← c .transform a (DSubst 0 r)
   at-plam p (λ _ body. pbeta c d g t r body ty x y) (at-ends c d g t r b e ty x y)
 
+-- the projections of the pair p
+unfoldable pub fst-beta : Callees → (d g t p a : ℕ) → W (Option Reduction)
+fst-beta c d g t p a = do
+  (ta, _, x) ← subject c d g p
+  typed ← c .check d g a ta
+  row ← emit-eq R.eq·fst-beta (refs-2 x typed) d g t a ta
+  give (some (record { term = a; type = ta; row = row }))
+
+unfoldable pub snd-beta : Callees → (d g t p b : ℕ) → W (Option Reduction)
+snd-beta c d g t p b = do
+  (_, tb, x) ← subject c d g p
+  (ty, y) ← for-call c (make-fst p) λ f. c .transform tb (Subst 0 f)
+  at-end c d g t b ty x y R.eq·snd-beta
+
 unfoldable pub reduce-body : Callees → (d g t : ℕ) → W (Option Reduction)
 reduce-body c d g t =
     open-cell t λ w.
     when eqb (w .kind) 7 then at-lam (w .a) (λ x body. beta c d g t x body (w .b)) (give none)
-    else (when eqb (w .kind) 10 then reduce-papp c d g t (w .a) (w .b) else give none)
+    else
+    (when eqb (w .kind) 10 then reduce-papp c d g t (w .a) (w .b)
+    else
+    (when eqb (w .kind) 13 then at-pair (w .a) (λ _ a _. fst-beta c d g t (w .a) a) (give none)
+    else (when eqb (w .kind) 14 then at-pair (w .a) (λ _ _ b. snd-beta c d g t (w .a) b) (give none) else give none)))
 
 unfoldable pub on-step : {A : Type 0} → Option Reduction → (Reduction → W A) → W A → W A
 on-step (some s) f z = f s

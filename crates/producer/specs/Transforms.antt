@@ -9,7 +9,7 @@ use Rattle.producer.specs.declared.intervals.IOp.the-variants.{IShift, I
 use Rattle.producer.specs.declared.transforms.Op.{Op}
 use Rattle.producer.specs.declared.transforms.Op.the-variants.{Shift, Subst, DShift, DSubst}
 use Rattle.walk.specs.Rule as R
-use Rattle.producer.specs.Machine.{W, _>>=_, give, when_then_else_, open-cell, lowest, intern, make-var, make-lam, make-app, make-path, make-plam, make-papp, emit, no-refs, refs-1, refs-2, refs-3, cons-refs, join-refs}
+use Rattle.producer.specs.Machine.{W, _>>=_, give, when_then_else_, open-cell, lowest, intern, make-var, make-lam, make-app, make-path, make-plam, make-papp, make-pair, emit, no-refs, refs-1, refs-2, refs-3, cons-refs, join-refs}
 use Rattle.producer.specs.Callees.{Callees}
 
 unfoldable pub by-op : Op → (a b c d : ℕ) → ℕ
@@ -115,6 +115,19 @@ transform-papp c i op p r = do
   (r′, refs) ← tinterval c r op
   finish i op (make-papp p′ r′) (rule-of op 10) (cons-refs x refs)
 
+unfoldable pub transform-pair : Callees → ℕ → Op → (ty a b : ℕ) → W (ℕ × ℕ)
+transform-pair c i op ty a b = do
+  (ty′, _) ← c .transform ty op
+  (a′, x) ← c .transform a op
+  (b′, y) ← c .transform b op
+  finish i op (make-pair ty′ a′ b′) (rule-of op 12) (refs-2 x y)
+
+-- one part
+unfoldable pub transform-projection : Callees → ℕ → Op → (kind p : ℕ) → W (ℕ × ℕ)
+transform-projection c i op kind p = do
+  (p′, x) ← c .transform p op
+  finish i op (intern kind p′ 0 0) (rule-of op kind) (refs-1 x)
+
 -- a term that is no variable: as it is where it has no parts
 unfoldable pub compound : Callees → ℕ → Op → Cell → W (ℕ × ℕ)
 compound c i op w =
@@ -129,7 +142,15 @@ compound c i op w =
     (when eqb (w .kind) 9 then transform-plam c i op (w .a) (w .b)
     else
     (when eqb (w .kind) 10 then transform-papp c i op (w .a) (w .b)
-    else finished i op i (rule-of op (w .kind)) no-refs)))))
+    else
+    (when eqb (w .kind) 11 then transform-binder c i op 11 (w .a) (w .b)
+    else
+    (when eqb (w .kind) 12 then transform-pair c i op (w .a) (w .b) (w .c)
+    else
+    (when eqb (w .kind) 13 then transform-projection c i op 13 (w .a)
+    else
+    (when eqb (w .kind) 14 then transform-projection c i op 14 (w .a)
+    else finished i op i (rule-of op (w .kind)) no-refs)))))))))
 
 unfoldable pub transform-body : Callees → ℕ → Op → W (ℕ × ℕ)
 transform-body c i op = open-cell i λ w. when eqb (w .kind) 2 then tvar c i (w .a) op else compound c i op w

@@ -7,7 +7,7 @@ use Rattle.producer.specs.declared.rows.Refs.{Refs}
 use Rattle.producer.specs.declared.transforms.Op.the-variants.{Subst, DSubst}
 use Rattle.walk.specs.Rule as R
 use Rattle.walk.specs.Refusal as Refusal
-use Rattle.producer.specs.Machine.{W, Finding, _>>=_, give, stop, when_then_else_, open-cell, same-quote, at-universe, at-pi, at-path, intern, make-universe, make-pi, make-path, make-i0, make-i1, make-cons, emit, emit-has, known-row, recall-or, remember, converting, no-refs, refs-1, refs-2, refs-3, refs-4, refs-7, refs-10}
+use Rattle.producer.specs.Machine.{W, Finding, _>>=_, give, stop, when_then_else_, open-cell, same-quote, at-universe, at-pi, at-lam, at-path, at-plam, at-sigma, at-pair, intern, make-universe, make-pi, make-path, make-fst, make-i0, make-i1, make-cons, emit, emit-has, known-row, recall-or, remember, converting, no-refs, refs-1, refs-2, refs-3, refs-4, refs-6, refs-7, refs-10}
 use Rattle.producer.specs.Callees.{Callees, for-call}
 
 -- a longer context
@@ -100,7 +100,7 @@ find-var c d g n = do
   (ty, y) ← c .lookup g n
   found (give ty) (refs-2 x y) R.type·v
 
--- two types, the second under a variable of the first: a pi
+-- two types, the second under a variable of the first: a pi, a sigma
 unfoldable pub find-binder : Callees → (d g a b rule : ℕ) → W Finding
 find-binder c d g a b rule = do
   (i, x) ← c .universe d g a
@@ -169,6 +169,40 @@ find-papp c d g p r = do
   (_, u) ← c .universe d g out
   found (give out) (refs-4 x y z u) R.type·papp
 
+-- the subject of a projection: its type as a sigma, exposed where it is not yet one
+unfoldable pub subject : Callees → (d g p : ℕ) → W (ℕ × ℕ × ℕ)
+subject c d g p = do
+  (ty, row) ← c .infer d g p
+  at-sigma ty (λ a b. give (a, b, row)) (do
+    (ty′, row′) ← opened c d g p ty row
+    at-sigma ty′ (λ a b. give (a, b, row′)) (stop Refusal.no-sigma))
+
+unfoldable pub pair-at : Callees → (d g ty ta tb a b : ℕ) → W Finding
+pair-at c d g ty ta tb a b = do
+  (_, x₀) ← c .universe d g ta
+  (j, x₁) ← for-call c (make-cons ta g) λ h. c .universe d h tb
+  x₂ ← c .check d g a ta
+  (out, x₃) ← c .transform tb (Subst 0 a)
+  x₄ ← for-call c (make-universe j) λ u. c .check d g out u
+  x₅ ← c .check d g b out
+  found (give ty) (refs-6 x₀ x₁ x₂ x₃ x₄ x₅) R.type·pair
+
+unfoldable pub find-pair : Callees → (d g ty a b : ℕ) → W Finding
+find-pair c d g ty a b = at-sigma ty (λ ta tb. pair-at c d g ty ta tb a b) (stop Refusal.annotation)
+
+unfoldable pub find-fst : Callees → (d g p : ℕ) → W Finding
+find-fst c d g p = do
+  (ta, _, x) ← subject c d g p
+  (_, y) ← c .universe d g ta
+  found (give ta) (refs-2 x y) R.type·fst
+
+unfoldable pub find-snd : Callees → (d g p : ℕ) → W Finding
+find-snd c d g p = do
+  (_, tb, x) ← subject c d g p
+  (out, y) ← for-call c (make-fst p) λ f. c .transform tb (Subst 0 f)
+  (_, z) ← c .universe d g out
+  found (give out) (refs-3 x y z) R.type·snd
+
 -- a term that has parts
 unfoldable pub find-compound : Callees → (d g : ℕ) → Cell → W Finding
 find-compound c d g w =
@@ -181,7 +215,15 @@ find-compound c d g w =
     (when eqb (w .kind) 8 then find-path c d g (w .a) (w .b) (w .c)
     else
     (when eqb (w .kind) 9 then find-plam c d g (w .a) (w .b)
-    else find-papp c d g (w .a) (w .b)))))
+    else
+    (when eqb (w .kind) 11 then find-binder c d g (w .a) (w .b) R.type·sigma
+    else
+    (when eqb (w .kind) 12 then find-pair c d g (w .a) (w .b) (w .c)
+    else
+    (when eqb (w .kind) 13 then find-fst c d g (w .a)
+    else
+    (when eqb (w .kind) 14 then find-snd c d g (w .a)
+    else find-papp c d g (w .a) (w .b)))))))))
 
 unfoldable pub find : Callees → (d g t : ℕ) → W Finding
 find c d g t =

@@ -1,6 +1,6 @@
 // The refusal of one method as the refusal of another, whose answer has another type. An answer that is none is refused with 0: no caller has one.
 ghost use mathlib.Core.Path.{_≡_};
-ghost use Rattle.producer.specs.Answers.{two-as-got, two-as-function, two-as-four, two-as-inferred, two-as-reduced, got-as-two, got-as-four, got-as-inferred, got-as-reduced, got-as-round, function-as-inferred, four-as-inferred, four-as-reduced, inferred-as-two, done-as-two};
+ghost use Rattle.producer.specs.Answers.{two-as-got, two-as-function, two-as-four, two-as-inferred, two-as-reduced, got-as-two, got-as-four, got-as-inferred, got-as-reduced, got-as-round, function-as-inferred, function-as-reduced, four-as-inferred, four-as-reduced, inferred-as-two, done-as-two};
 use crate::state::Done;
 use crate::state::Four;
 use crate::state::Function;
@@ -122,6 +122,16 @@ impl Function {
         match q {
             Function::Of(s, _, _, _) => Inferred::Refused(s, 0),
             Function::Refused(s, e) => Inferred::Refused(s, e),
+        }
+    }
+
+    pub fn as_reduced(self) -> Reduced
+        ensures { λ r. ⌜ r ≡ function-as-reduced self ⌝ }
+    {
+        let q = self;
+        match q {
+            Function::Of(s, _, _, _) => Reduced::Refused(s, 0),
+            Function::Refused(s, e) => Reduced::Refused(s, e),
         }
     }
 }

@@ -1,7 +1,7 @@
 // Equality: root reductions, normal forms, equal terms. With typing.rt these form one cycle of calls.
 ghost use mathlib.Core.Path.{_≡_};
 ghost use Rattle.producer.specs.Machine.{machine, end, end-2, end-step, end-round};
-ghost use Rattle.producer.specs.Equality.{beta, beta-row, at-end, pbeta, reduce-papp, round, rounds};
+ghost use Rattle.producer.specs.Equality.{beta, beta-row, at-end, pbeta, reduce-papp, fst-beta, snd-beta, round, rounds};
 ghost use Rattle.producer.specs.Calls.{callees};
 use crate::codes;
 use crate::rows::cite1;
@@ -10,6 +10,7 @@ use crate::rows::cite3;
 use crate::rows::cite5;
 use crate::rows::cite6;
 use crate::state::Four;
+use crate::state::Function;
 use crate::state::Got;
 use crate::state::Reduced;
 use crate::state::Round;
@@ -53,6 +54,20 @@ impl State {
             }
             kinds::PAPP => {
                 return s0.along(down, rows, cells, d, g, t, cell.a, cell.b);
+            }
+            kinds::FST => {
+                let shape = shape_of(cells, cell.a);
+                if let Shape::Pair(_, a, _) = shape {
+                    return s0.fst_beta(down, rows, cells, d, g, t, cell.a, a);
+                }
+                return Reduced::Whole(s0);
+            }
+            kinds::SND => {
+                let shape = shape_of(cells, cell.a);
+                if let Shape::Pair(_, _, b) = shape {
+                    return s0.snd_beta(down, rows, cells, d, g, t, cell.a, b);
+                }
+                return Reduced::Whole(s0);
             }
             _ => {}
         }
@@ -218,7 +233,7 @@ impl State {
         Reduced::Step(s4, out, ty, row)
     }
 
-    // The side `out` of a path's type.
+    // `t` goes to `out`, of a type that its parts have given by the rows `x` and `y`: a side of a path's type, the second part of a pair.
     pub fn at_end(
         self,
         left: u32,
@@ -245,6 +260,65 @@ impl State {
             return q2.as_reduced();
         };
         Reduced::Step(s2, out, ty, row)
+    }
+
+    // The first projection of the pair `p`, whose first part is `a`.
+    pub fn fst_beta(
+        self,
+        left: u32,
+        rows: &mut [u32],
+        cells: &mut [u32],
+        d: u32,
+        g: u32,
+        t: u32,
+        p: u32,
+        a: u32,
+    ) -> Reduced
+        ensures { λ u. ⌜ end-step u (now (rows .exit)) (now (cells .exit)) ≡ fst-beta (callees left) d g t p a (machine (now (rows .entry)) (now (cells .entry)) self) ⌝ }
+    {
+        let q1 = self.subject(left, rows, cells, d, g, p);
+        let Function::Of(s1, ta, _, x) = q1 else {
+            return q1.as_reduced();
+        };
+        let q2 = s1.check(left, rows, cells, d, g, a, ta);
+        let Got::Is(s2, typed) = q2 else {
+            return q2.as_reduced();
+        };
+        let refs = cite2(x, typed);
+        let q3 = s2.emit_eq(rows, cells, codes::EQ_FST_BETA, refs, d, g, t, a, ta);
+        let Got::Is(s3, row) = q3 else {
+            return q3.as_reduced();
+        };
+        Reduced::Step(s3, a, ta, row)
+    }
+
+    // The second projection of the pair `p`, whose second part is `b`.
+    pub fn snd_beta(
+        self,
+        left: u32,
+        rows: &mut [u32],
+        cells: &mut [u32],
+        d: u32,
+        g: u32,
+        t: u32,
+        p: u32,
+        b: u32,
+    ) -> Reduced
+        ensures { λ u. ⌜ end-step u (now (rows .exit)) (now (cells .exit)) ≡ snd-beta (callees left) d g t p b (machine (now (rows .entry)) (now (cells .entry)) self) ⌝ }
+    {
+        let q1 = self.subject(left, rows, cells, d, g, p);
+        let Function::Of(s1, _, tb, x) = q1 else {
+            return q1.as_reduced();
+        };
+        let q2 = s1.prepare(left, rows, cells, kinds::FST, p, 0);
+        let Got::Is(s2, first) = q2 else {
+            return q2.as_reduced();
+        };
+        let q3 = s2.transform(left, rows, cells, tb, Op::Subst(0, first));
+        let Two::Pair(s3, ty, y) = q3 else {
+            return q3.as_reduced();
+        };
+        s3.at_end(left, rows, cells, d, g, t, b, ty, x, y, codes::EQ_SND_BETA)
     }
 
     // The term with its root reduced while that goes, and the row of the equation.

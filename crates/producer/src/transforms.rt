@@ -1,7 +1,7 @@
 // Transforms of terms: shifts and substitutions, of variables and of dimensions. Each call has less nesting left.
 ghost use mathlib.Core.Path.{_≡_};
 ghost use Rattle.producer.specs.Machine.{machine, end, end-2, end-cited, end-inner, intern, make-var};
-ghost use Rattle.producer.specs.Transforms.{by-op, rule-of, temit, finished, finish, tvar-shift, tvar-subst, tvar, tinterval, transform-binder, transform-lam, transform-app, transform-path, transform-plam, transform-papp, compound, under-subst};
+ghost use Rattle.producer.specs.Transforms.{by-op, rule-of, temit, finished, finish, tvar-shift, tvar-subst, tvar, tinterval, transform-binder, transform-lam, transform-app, transform-path, transform-plam, transform-papp, transform-pair, transform-projection, compound, under-subst};
 ghost use Rattle.producer.specs.Calls.{callees};
 use crate::codes;
 use crate::intervals::IOp;
@@ -408,6 +408,18 @@ impl State {
             kinds::PAPP => {
                 return self.tpapp(left, rows, cells, i, op, cell.a, cell.b);
             }
+            kinds::SIGMA => {
+                return self.tbinder(left, rows, cells, i, op, kinds::SIGMA, cell.a, cell.b);
+            }
+            kinds::PAIR => {
+                return self.tpair(left, rows, cells, i, op, cell.a, cell.b, cell.c);
+            }
+            kinds::FST => {
+                return self.tproject(left, rows, cells, i, op, kinds::FST, cell.a);
+            }
+            kinds::SND => {
+                return self.tproject(left, rows, cells, i, op, kinds::SND, cell.a);
+            }
             _ => {}
         }
         let refs = cite0();
@@ -415,7 +427,7 @@ impl State {
         self.finish(rows, cells, i, op, i, rule, refs)
     }
 
-    // Two parts, the second under a variable, and both shown: a pi.
+    // Two parts, the second under a variable, and both shown: a pi, a sigma.
     pub fn tbinder(
         self,
         left: u32,
@@ -590,6 +602,57 @@ impl State {
             }
             Cited::Refused(s2, e) => Two::Refused(s2, e),
         }
+    }
+
+    // A pair: as of a lam, the annotation's row is not cited.
+    pub fn tpair(
+        self,
+        left: u32,
+        rows: &mut [u32],
+        cells: &mut [u32],
+        i: u32,
+        op: Op,
+        ty: u32,
+        a: u32,
+        b: u32,
+    ) -> Two
+        ensures { λ r. ⌜ end-2 r (now (rows .exit)) (now (cells .exit)) ≡ transform-pair (callees left) i op ty a b (machine (now (rows .entry)) (now (cells .entry)) self) ⌝ }
+    {
+        let q1 = self.transform(left, rows, cells, ty, op);
+        let Two::Pair(s1, ty1, _) = q1 else {
+            return q1;
+        };
+        let q2 = s1.transform(left, rows, cells, a, op);
+        let Two::Pair(s2, a1, x) = q2 else {
+            return q2;
+        };
+        let q3 = s2.transform(left, rows, cells, b, op);
+        let Two::Pair(s3, b1, y) = q3 else {
+            return q3;
+        };
+        let refs = cite2(x, y);
+        s3.tmake(rows, cells, i, op, kinds::PAIR, ty1, a1, b1, refs)
+    }
+
+    // One part: a projection.
+    pub fn tproject(
+        self,
+        left: u32,
+        rows: &mut [u32],
+        cells: &mut [u32],
+        i: u32,
+        op: Op,
+        kind: u32,
+        p: u32,
+    ) -> Two
+        ensures { λ r. ⌜ end-2 r (now (rows .exit)) (now (cells .exit)) ≡ transform-projection (callees left) i op kind p (machine (now (rows .entry)) (now (cells .entry)) self) ⌝ }
+    {
+        let q1 = self.transform(left, rows, cells, p, op);
+        let Two::Pair(s1, p1, x) = q1 else {
+            return q1;
+        };
+        let refs = cite1(x);
+        s1.tmake(rows, cells, i, op, kind, p1, 0, 0, refs)
     }
 
     // The operation under one more binder, of a dimension or of a variable, with the rows that this cites.

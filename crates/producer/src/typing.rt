@@ -2,7 +2,7 @@
 // a reference function is entered with one less nesting left, and an arm of one keeps what is left.
 ghost use mathlib.Core.Path.{_≡_};
 ghost use Rattle.producer.specs.Machine.{machine, end, end-2, end-3, end-4, end-found};
-ghost use Rattle.producer.specs.Typing.{exposed, converted, opened, as-pi, as-path, find-atom, find-var, find-binder, find-lam, find-app, ends, find-path, find-plam, find-papp, find};
+ghost use Rattle.producer.specs.Typing.{exposed, converted, opened, as-pi, as-path, find-atom, find-var, find-binder, find-lam, find-app, ends, find-path, find-plam, find-papp, subject, find-pair, find-fst, find-snd, find};
 ghost use Rattle.producer.specs.Calls.{callees};
 use crate::codes;
 use crate::rows::cite0;
@@ -10,6 +10,7 @@ use crate::rows::cite1;
 use crate::rows::cite2;
 use crate::rows::cite3;
 use crate::rows::cite4;
+use crate::rows::cite6;
 use crate::rows::cite7;
 use crate::rows::cite10;
 use crate::rows::find_row;
@@ -430,6 +431,18 @@ impl State {
             kinds::PLAM => {
                 return self.plam(left, rows, cells, d, g, cell.a, cell.b);
             }
+            kinds::SIGMA => {
+                return self.binder(left, rows, cells, d, g, cell.a, cell.b, codes::TYPE_SIGMA);
+            }
+            kinds::PAIR => {
+                return self.pair(left, rows, cells, d, g, cell.a, cell.b, cell.c);
+            }
+            kinds::FST => {
+                return self.fst(left, rows, cells, d, g, cell.a);
+            }
+            kinds::SND => {
+                return self.snd(left, rows, cells, d, g, cell.a);
+            }
             _ => {}
         }
         self.papp(left, rows, cells, d, g, cell.a, cell.b)
@@ -485,7 +498,7 @@ impl State {
         Inferred::Has(s2, ty, refs, codes::TYPE_V)
     }
 
-    // Two types, the second under a variable of the first, as in a pi: this lies in the greater of their universes.
+    // Two types, the second under a variable of the first, as in a pi or a sigma: this lies in the greater of their universes.
     pub fn binder(
         self,
         left: u32,
@@ -757,5 +770,146 @@ impl State {
         };
         let refs = cite4(x, y, z, u);
         Inferred::Has(s5, out, refs, codes::TYPE_PAPP)
+    }
+
+    // The subject of a projection: its type taken apart as a sigma, and its row; refuses (21) another.
+    pub fn subject(
+        self,
+        left: u32,
+        rows: &mut [u32],
+        cells: &mut [u32],
+        d: u32,
+        g: u32,
+        p: u32,
+    ) -> Function
+        ensures { λ r. ⌜ end-3 r (now (rows .exit)) (now (cells .exit)) ≡ subject (callees left) d g p (machine (now (rows .entry)) (now (cells .entry)) self) ⌝ }
+    {
+        let q1 = self.infer(left, rows, cells, d, g, p);
+        let Two::Pair(s1, ty, row) = q1 else {
+            return q1.as_function();
+        };
+        let shape = shape_of(cells, ty);
+        if let Shape::Sigma(a, b) = shape {
+            return Function::Of(s1, a, b, row);
+        }
+        let q2 = s1.head(left, rows, cells, d, g, p, ty, row);
+        let Two::Pair(s2, normal, typed) = q2 else {
+            return q2.as_function();
+        };
+        let exposed = shape_of(cells, normal);
+        let Shape::Sigma(a, b) = exposed else {
+            return Function::Refused(s2, refusals::NO_SIGMA);
+        };
+        Function::Of(s2, a, b, typed)
+    }
+
+    // A pair has the sigma type that it is annotated with; refuses (22) an annotation that is not written as one.
+    pub fn pair(
+        self,
+        left: u32,
+        rows: &mut [u32],
+        cells: &mut [u32],
+        d: u32,
+        g: u32,
+        ty: u32,
+        a: u32,
+        b: u32,
+    ) -> Inferred
+        ensures { λ r. ⌜ end-found r (now (rows .exit)) (now (cells .exit)) ≡ find-pair (callees left) d g ty a b (machine (now (rows .entry)) (now (cells .entry)) self) ⌝ }
+    {
+        let shape = shape_of(cells, ty);
+        let Shape::Sigma(ta, tb) = shape else {
+            return Inferred::Refused(self, refusals::ANNOTATION);
+        };
+        let q1 = self.universe(left, rows, cells, d, g, ta);
+        let Two::Pair(s1, _, x0) = q1 else {
+            return q1.as_inferred();
+        };
+        let q2 = s1.prepare(left, rows, cells, kinds::CONS, ta, g);
+        let Got::Is(s2, h) = q2 else {
+            return q2.as_inferred();
+        };
+        let q3 = s2.universe(left, rows, cells, d, h, tb);
+        let Two::Pair(s3, level, x1) = q3 else {
+            return q3.as_inferred();
+        };
+        let q4 = s3.check(left, rows, cells, d, g, a, ta);
+        let Got::Is(s4, x2) = q4 else {
+            return q4.as_inferred();
+        };
+        let q5 = s4.transform(left, rows, cells, tb, Op::Subst(0, a));
+        let Two::Pair(s5, out, x3) = q5 else {
+            return q5.as_inferred();
+        };
+        let q6 = s5.prepare(left, rows, cells, kinds::UNIVERSE, level, 0);
+        let Got::Is(s6, u) = q6 else {
+            return q6.as_inferred();
+        };
+        let q7 = s6.check(left, rows, cells, d, g, out, u);
+        let Got::Is(s7, x4) = q7 else {
+            return q7.as_inferred();
+        };
+        let q8 = s7.check(left, rows, cells, d, g, b, out);
+        let Got::Is(s8, x5) = q8 else {
+            return q8.as_inferred();
+        };
+        let refs = cite6(x0, x1, x2, x3, x4, x5);
+        Inferred::Has(s8, ty, refs, codes::TYPE_PAIR)
+    }
+
+    // The first projection has the sigma's first type.
+    pub fn fst(
+        self,
+        left: u32,
+        rows: &mut [u32],
+        cells: &mut [u32],
+        d: u32,
+        g: u32,
+        p: u32,
+    ) -> Inferred
+        ensures { λ r. ⌜ end-found r (now (rows .exit)) (now (cells .exit)) ≡ find-fst (callees left) d g p (machine (now (rows .entry)) (now (cells .entry)) self) ⌝ }
+    {
+        let q1 = self.subject(left, rows, cells, d, g, p);
+        let Function::Of(s1, ta, _, x) = q1 else {
+            return q1.as_inferred();
+        };
+        let q2 = s1.universe(left, rows, cells, d, g, ta);
+        let Two::Pair(s2, _, y) = q2 else {
+            return q2.as_inferred();
+        };
+        let refs = cite2(x, y);
+        Inferred::Has(s2, ta, refs, codes::TYPE_FST)
+    }
+
+    // The second projection has the sigma's second type, with the first projection put in.
+    pub fn snd(
+        self,
+        left: u32,
+        rows: &mut [u32],
+        cells: &mut [u32],
+        d: u32,
+        g: u32,
+        p: u32,
+    ) -> Inferred
+        ensures { λ r. ⌜ end-found r (now (rows .exit)) (now (cells .exit)) ≡ find-snd (callees left) d g p (machine (now (rows .entry)) (now (cells .entry)) self) ⌝ }
+    {
+        let q1 = self.subject(left, rows, cells, d, g, p);
+        let Function::Of(s1, _, tb, x) = q1 else {
+            return q1.as_inferred();
+        };
+        let q2 = s1.prepare(left, rows, cells, kinds::FST, p, 0);
+        let Got::Is(s2, first) = q2 else {
+            return q2.as_inferred();
+        };
+        let q3 = s2.transform(left, rows, cells, tb, Op::Subst(0, first));
+        let Two::Pair(s3, out, y) = q3 else {
+            return q3.as_inferred();
+        };
+        let q4 = s3.universe(left, rows, cells, d, g, out);
+        let Two::Pair(s4, _, z) = q4 else {
+            return q4.as_inferred();
+        };
+        let refs = cite3(x, y, z);
+        Inferred::Has(s4, out, refs, codes::TYPE_SND)
     }
 }

@@ -5,7 +5,7 @@ use mathlib.Core.List.{List, [], _∷_}
 use mathlib.Core.Option.{none}
 use lib.Dec.{lit<}
 use Rattle.walk.specs.Syntax.{quote, quote?, Interval, I0, I1, Dim, Neg, Meet, Join, Term, Universe, Var, Nat, Zero, Pi, Lam, App, Path, PathLam, PathApp, Sigma, Pair, Fst, Snd, Context, Cons, Quote, path, plam, papp, Quotes}
-use Rattle.walk.specs.Judgment.{interval, dsubst, has, eq}
+use Rattle.walk.specs.Judgment.{Judgment, interval, dsubst, has, eq}
 use Rattle.walk.specs.Rules.{Follows, by·eq·refl, by·eq·sym, by·eq·trans, by·eq·beta, by·eq·pbeta, by·eq·p0, by·eq·p1, by·eq·fst-beta, by·eq·snd-beta}
 use Rattle.walk.specs.State.{Row}
 use Rattle.walk.specs.Walk.{Subst, DSubst, Callees, typing, level, pi-parts, lam-parts, path-parts, plam-parts, sigma-parts, pair-parts, equation, beta, at-end, pbeta, ends, fst-beta, snd-beta, reduce-body, rounds, normalize-body, equal-body}
@@ -37,10 +37,14 @@ module _ (c : Callees) (S : Sound c) where
       bind (S .interval d r) λ _ _ e₁ h₁. bind (S .transform body (DSubst 0 r)) λ o₂ _ e₂ h₂. bind (S .check d g (o₂ .0) ty) λ _ _ e₃ h₃.
       bind (emitted (lift e₃ (lift e₂ (lift e₁ hx)) also lift e₃ (lift e₂ h₁) also lift e₃ (lift e₂ (lift e₁ hy)) also lift e₃ h₂ also h₃ also none-cited) (pbeta-rule q)) λ row _ _ h. giving _ λ _ e. lift e h
 
+  at-end-sound : {rs : List Row} {j k : Judgment} (d : ℕ) (g : Context) (t out ty : Term) (x y rule : ℕ) → At x j rs → At y k rs → Follows rule (j ∷ k ∷ typing d g out ty ∷ []) (equation d g t out ty) → Keeps rs (at-end c d g t out ty x y rule) (Stepped d g t)
+  unfolding at-end
+  at-end-sound d g t out ty x y rule hx hy follows = bind (S .check d g out ty) λ _ _ e₁ h₁. bind (emitted (lift e₁ hx also lift e₁ hy also h₁ also none-cited) follows) λ row _ _ h. giving _ λ _ e. lift e h
+
   ends-sound : {rs : List Row} (d : ℕ) (g : Context) (p : Term) (r : Interval) (a b f ty : Term) (x y : ℕ) → At x (typing d g p (Path a b f)) rs → At y (dsubst (quote a) 0 r (quote ty)) rs → Keeps rs (ends c d g p r b f ty x y) (Stepped d g (PathApp p r))
-  unfolding ends at-end
-  ends-sound d g p I0 a b f ty x y hx hy = bind (S .check d g b ty) λ _ _ e₁ h₁. bind (emitted (lift e₁ hx also lift e₁ hy also h₁ also none-cited) by·eq·p0) λ row _ _ h. giving _ λ _ e. lift e h
-  ends-sound d g p I1 a b f ty x y hx hy = bind (S .check d g f ty) λ _ _ e₁ h₁. bind (emitted (lift e₁ hx also lift e₁ hy also h₁ also none-cited) by·eq·p1) λ row _ _ h. giving _ λ _ e. lift e h
+  unfolding ends
+  ends-sound d g p I0 a b f ty x y hx hy = at-end-sound d g (PathApp p I0) b ty x y R.eq·p0 hx hy by·eq·p0
+  ends-sound d g p I1 a b f ty x y hx hy = at-end-sound d g (PathApp p I1) f ty x y R.eq·p1 hx hy by·eq·p1
   ends-sound d g p (Dim n) a b f ty x y hx hy = giving none λ _ _. tt
   ends-sound d g p (Neg r) a b f ty x y hx hy = giving none λ _ _. tt
   ends-sound d g p (Meet r q) a b f ty x y hx hy = giving none λ _ _. tt
@@ -55,8 +59,8 @@ module _ (c : Callees) (S : Sound c) where
   snd-beta-sound : {rs : List Row} (d : ℕ) (g : Context) (ty a b : Term) → Keeps rs (snd-beta c d g (Pair ty a b) b) (Stepped d g (Snd (Pair ty a b)))
   unfolding snd-beta
   snd-beta-sound d g ty a b =
-      bind (subject-sound c S d g (Pair ty a b)) λ o₁ _ _ h₁. bind (S .transform (o₁ .0 .1) (Subst 0 (Fst (Pair ty a b)))) λ o₂ _ e₂ h₂. bind (S .check d g b (o₂ .0)) λ _ _ e₃ h₃.
-      bind (emitted (lift e₃ (lift e₂ h₁) also lift e₃ h₂ also h₃ also none-cited) by·eq·snd-beta) λ row _ _ h. giving _ λ _ e. lift e h
+      bind (subject-sound c S d g (Pair ty a b)) λ o₁ _ _ h₁. bind (S .transform (o₁ .0 .1) (Subst 0 (Fst (Pair ty a b)))) λ o₂ _ e₂ h₂.
+      at-end-sound d g (Snd (Pair ty a b)) b (o₂ .0) (o₁ .1) (o₂ .1) R.eq·snd-beta (lift e₂ h₁) h₂ by·eq·snd-beta
 
   pub reduce-sound : {rs : List Row} (d : ℕ) (g : Context) (t : Term) → Keeps rs (reduce-body c d g t) (Stepped d g t)
   unfolding reduce-body

@@ -24,11 +24,11 @@ beta c d g a body r = do
   row ← emit R.eq·beta (x ∷ y ∷ z ∷ arg ∷ x₄ ∷ x₅ ∷ []) (equation d g (App (Lam a body) r) out ty)
   pure (some (record { term = out; type = ty; row = row }))
 
--- an end of the path that p is
-unfoldable pub at-end : Callees → ℕ → Context → Term → Interval → Term → Term → ℕ → ℕ → ℕ → M (Option Step)
-at-end c d g p r out ty x y rule = do
+-- t goes to out, of a type that t's parts have given by the rows x and y: an end of a path, the second part of a pair
+unfoldable pub at-end : Callees → ℕ → Context → Term → Term → Term → ℕ → ℕ → ℕ → M (Option Step)
+at-end c d g t out ty x y rule = do
   typed ← c .check d g out ty
-  row ← emit rule (x ∷ y ∷ typed ∷ []) (equation d g (PathApp p r) out ty)
+  row ← emit rule (x ∷ y ∷ typed ∷ []) (equation d g t out ty)
   pure (some (record { term = out; type = ty; row = row }))
 
 unfoldable pub pbeta : Callees → ℕ → Context → Term → Interval → Term → Term → ℕ → ℕ → M (Option Step)
@@ -41,8 +41,8 @@ pbeta c d g p r body ty x y = do
 
 -- a path that is no plam, at a literal end alone
 unfoldable pub ends : Callees → ℕ → Context → Term → Interval → Term → Term → Term → ℕ → ℕ → M (Option Step)
-ends c d g p I0 b e ty x y = at-end c d g p I0 b ty x y R.eq·p0
-ends c d g p I1 b e ty x y = at-end c d g p I1 e ty x y R.eq·p1
+ends c d g p I0 b e ty x y = at-end c d g (PathApp p I0) b ty x y R.eq·p0
+ends c d g p I1 b e ty x y = at-end c d g (PathApp p I1) e ty x y R.eq·p1
 ends c d g p (Dim n) b e ty x y = pure none
 ends c d g p (Neg r) b e ty x y = pure none
 ends c d g p (Meet r q) b e ty x y = pure none
@@ -60,9 +60,7 @@ unfoldable pub snd-beta : Callees → ℕ → Context → Term → Term → M (O
 snd-beta c d g p b = do
   (sigma, x) ← subject c d g p
   (ty, y) ← c .transform (sigma .1) (Subst 0 (Fst p))
-  typed ← c .check d g b ty
-  row ← emit R.eq·snd-beta (x ∷ y ∷ typed ∷ []) (equation d g (Snd p) b ty)
-  pure (some (record { term = b; type = ty; row = row }))
+  at-end c d g (Snd p) b ty x y R.eq·snd-beta
 
 unfoldable pub reduce-body : Callees → ℕ → Context → Term → M (Option Step)
 reduce-body c d g (Universe l) = pure none

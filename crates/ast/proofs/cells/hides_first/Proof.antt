@@ -14,7 +14,11 @@ returns-2 c = rw (c .match .keys2)
 
 returns-3 : tie.Need-returns-3
 unfolding hides-first
-returns-3 c = rw (ne-eqb _ _ (c .match .rest .0 .1), ne-eqb _ _ (c .match .rest .1))
+returns-3 c = rw (c .match .keys3)
+
+returns-4 : tie.Need-returns-4
+unfolding hides-first
+returns-4 c = rw (ne-eqb _ _ (c .match .rest .0 .0 .1), ne-eqb _ _ (c .match .rest .0 .1), ne-eqb _ _ (c .match .rest .1))
 
 pub hides-first-spec : {M : Type 1} → statement M
-hides-first-spec = tie.close (tie.spec returns returns-2 returns-3)
+hides-first-spec = tie.close (tie.spec returns returns-2 returns-3 returns-4)

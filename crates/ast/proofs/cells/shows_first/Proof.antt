@@ -38,8 +38,20 @@ returns-8 c = rw (c .match .keys8)
 
 returns-9 : tie.Need-returns-9
 unfolding shows-first
-returns-9 c = rw (ne-eqb _ _ (c .match .rest .0 .0 .0 .0 .0 .0 .0 .1), ne-eqb _ _ (c .match .rest .0 .0 .0 .0 .0 .0 .1), ne-eqb _ _ (c .match .rest .0 .0 .0 .0 .0 .1), ne-eqb _ _ (c .match .rest .0 .0 .0 .0 .1), ne-eqb _ _ (c .match .rest .0 .0 .0 .1), ne-eqb _ _ (c .match .rest .0 .0 .1))
-    (rw (ne-eqb _ _ (c .match .rest .0 .1), ne-eqb _ _ (c .match .rest .1)))
+returns-9 c = rw (c .match .keys9)
+
+returns-10 : tie.Need-returns-10
+unfolding shows-first
+returns-10 c = rw (c .match .keys10)
+
+returns-11 : tie.Need-returns-11
+unfolding shows-first
+returns-11 c = rw (c .match .keys11)
+
+returns-12 : tie.Need-returns-12
+unfolding shows-first
+returns-12 c = rw (ne-eqb _ _ (c .match .rest .0 .0 .0 .0 .0 .0 .0 .0 .0 .0 .1), ne-eqb _ _ (c .match .rest .0 .0 .0 .0 .0 .0 .0 .0 .0 .1), ne-eqb _ _ (c .match .rest .0 .0 .0 .0 .0 .0 .0 .0 .1), ne-eqb _ _ (c .match .rest .0 .0 .0 .0 .0 .0 .0 .1), ne-eqb _ _ (c .match .rest .0 .0 .0 .0 .0 .0 .1), ne-eqb _ _ (c .match .rest .0 .0 .0 .0 .0 .1))
+    (rw (ne-eqb _ _ (c .match .rest .0 .0 .0 .0 .1), ne-eqb _ _ (c .match .rest .0 .0 .0 .1), ne-eqb _ _ (c .match .rest .0 .0 .1), ne-eqb _ _ (c .match .rest .0 .1), ne-eqb _ _ (c .match .rest .1)))
 
 pub shows-first-spec : {M : Type 1} → statement M
 shows-first-spec =
@@ -53,4 +65,7 @@ shows-first-spec =
     returns-6
     returns-7
     returns-8
-    returns-9)
+    returns-9
+    returns-10
+    returns-11
+    returns-12)

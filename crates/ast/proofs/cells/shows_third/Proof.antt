@@ -10,7 +10,11 @@ returns c = rw (c .match .keys1)
 
 returns-2 : tie.Need-returns-2
 unfolding shows-third
-returns-2 c = rw (ne-eqb _ _ (c .match .rest .1))
+returns-2 c = rw (c .match .keys2)
+
+returns-3 : tie.Need-returns-3
+unfolding shows-third
+returns-3 c = rw (ne-eqb _ _ (c .match .rest .0 .1), ne-eqb _ _ (c .match .rest .1))
 
 pub shows-third-spec : {M : Type 1} → statement M
-shows-third-spec = tie.close (tie.spec returns returns-2)
+shows-third-spec = tie.close (tie.spec returns returns-2 returns-3)
