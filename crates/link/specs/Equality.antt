@@ -9,7 +9,7 @@ use Rattle.producer.specs.Machine.{Machine, W, Reduction, next, stop, when_then
 use Rattle.producer.specs.Machine as C
 use Rattle.producer.specs.Callees.{Callees}
 use Rattle.producer.specs.Equality as P
-use Rattle.walk.specs.Syntax.{Interval, I0, I1, Term, App, Lam, PathApp, Context, quote, quote?}
+use Rattle.walk.specs.Syntax.{Interval, I0, I1, Term, App, Lam, PathApp, Fst, Snd, Context, quote, quote?}
 use Rattle.walk.specs.State.{Thing, term, interval, context, M, refuse, if_then_else_, from_get_or_}
 use Rattle.walk.specs.Walk.Reference as D
 use Rattle.walk.specs.Walk.Equality as B
@@ -17,9 +17,9 @@ use Rattle.link.specs.Lists.{extends-trans}
 use Rattle.link.specs.Things.{Cell, cell-lift, cell-same}
 use Rattle.link.specs.Holds.{Before}
 use Rattle.link.specs.Match.{Matches, both-refused, bind, giving, stopping, Same, cite-1, cite-2, cite-3, cite-5, cite-6, Returns, regrouped, given}
-use Rattle.link.specs.Open.{Node, opening-interval, opening-term, at-lam, at-plam, same-quote}
+use Rattle.link.specs.Open.{Node, opening-interval, opening-term, at-lam, at-plam, at-pair, same-quote}
 use Rattle.link.specs.Linked.{Linked, o-subst, o-dsubst, Steps, no-step, a-step, row-then, pair-then, number-then}
-use Rattle.link.specs.Typing.{emitting-eq, four-then, universe-of-cons, infer-of-cons, as-path-matches}
+use Rattle.link.specs.Typing.{emitting-eq, three-then, four-then, universe-of-cons, infer-of-cons, as-path-matches, subject-matches, transform-at-fst}
 
 module _ {o : Before} {rd : M (Unit {0})} (c : Callees) (d : D.Callees) (L : Linked o rd c d) where
   -- root reductions
@@ -42,9 +42,9 @@ module _ {o : Before} {rd : M (Unit {0})} (c : Callees) (d : D.Callees) (L : Lin
       row-then (emitting-eq _ n cite-6 (cell-lift f₆ g) (cell-lift f₆ t₁) (cell-lift e₆ out) ty) λ _ _ e₇.
       giving _ _ λ _ f. a-step (cell-lift (extends-trans e₆ (extends-trans e₇ f)) out) (cell-lift (extends-trans e₇ f) ty) refl
 
-  at-end-matches : {xs : List Thing} {g t b y : ℕ} {g′ : Context} {p′ b′ y′ : Term} (r′ : Interval) (n x z rule : ℕ) → Cell g (context g′) xs → Cell t (term (PathApp p′ r′)) xs → Cell b (term b′) xs → Cell y (term y′) xs → Matches o xs (P.at-end c n g t b y x z rule) (B.at-end d n g′ p′ r′ b′ y′ x z rule) Steps
+  at-end-matches : {xs : List Thing} {g t b y : ℕ} {g′ : Context} {t′ b′ y′ : Term} (n x z rule : ℕ) → Cell g (context g′) xs → Cell t (term t′) xs → Cell b (term b′) xs → Cell y (term y′) xs → Matches o xs (P.at-end c n g t b y x z rule) (B.at-end d n g′ t′ b′ y′ x z rule) Steps
   unfolding P.at-end B.at-end
-  at-end-matches r′ n x z rule g t b y =
+  at-end-matches n x z rule g t b y =
       row-then (L .check n g b y) λ _ _ e₁.
       row-then (emitting-eq _ n cite-3 (cell-lift e₁ g) (cell-lift e₁ t) (cell-lift e₁ b) (cell-lift e₁ y)) λ _ _ e₂.
       giving _ _ λ _ f. let e = extends-trans e₁ (extends-trans e₂ f) in a-step (cell-lift e b) (cell-lift e y) refl
@@ -64,8 +64,8 @@ module _ {o : Before} {rd : M (Unit {0})} (c : Callees) (d : D.Callees) (L : Lin
   unfolding P.at-ends B.ends when_then_else_
   ends-matches {xs = xs} {t = t₀} {r = r₁} {g′ = g′} {p′ = p′} {b′ = b′} {e′ = e′} {y′ = y′} {r′ = r₀} n x z g t r b e y =
       opening-interval _ (λ r′. B.ends d n g′ p′ r′ b′ e′ y′ x z) r
-      (λ _ k. at-end-matches I0 n x z _ g (whole I0 k) b y)
-      (λ _ k. at-end-matches I1 n x z _ g (whole I1 k) e y)
+      (λ _ k. at-end-matches n x z _ g (whole I0 k) b y)
+      (λ _ k. at-end-matches n x z _ g (whole I1 k) e y)
       (λ _ _ _. giving _ _ λ _ _. no-step)
       (λ _ _ _ _ _. giving _ _ λ _ _. no-step)
       (λ _ _ _ _ _ _ _ _. giving _ _ λ _ _. no-step)
@@ -86,6 +86,23 @@ module _ {o : Before} {rd : M (Unit {0})} (c : Callees) (d : D.Callees) (L : Lin
       (λ _ _ _ _ _ _ body. pbeta-matches n x z (cell-lift f₃ g) (cell-lift f₃ t) (cell-lift f₃ r) body ty)
       (ends-matches n x z (cell-lift f₃ g) (cell-lift f₃ t) (cell-lift f₃ r) (cell-lift e₃ b) (cell-lift e₃ e) ty)
 
+  fst-beta-matches : {xs : List Thing} {g t p a : ℕ} {g′ : Context} {p′ a′ : Term} (n : ℕ) → Cell g (context g′) xs → Cell t (term (Fst p′)) xs → Cell p (term p′) xs → Cell a (term a′) xs → Matches o xs (P.fst-beta c n g t p a) (B.fst-beta d n g′ p′ a′) Steps
+  unfolding P.fst-beta B.fst-beta
+  fst-beta-matches n g t p a =
+      three-then _ _ (subject-matches c d L n g p) λ _ _ _ _ _ _ e₁ ta _.
+      row-then (L .check n (cell-lift e₁ g) (cell-lift e₁ a) ta) λ _ _ e₂.
+      let f₂ = extends-trans e₁ e₂ in
+      row-then (emitting-eq _ n cite-2 (cell-lift f₂ g) (cell-lift f₂ t) (cell-lift f₂ a) (cell-lift e₂ ta)) λ _ _ e₃.
+      giving _ _ λ _ f. let e = extends-trans e₂ (extends-trans e₃ f) in a-step (cell-lift (extends-trans e₁ e) a) (cell-lift e ta) refl
+
+  snd-beta-matches : {xs : List Thing} {g t p b : ℕ} {g′ : Context} {p′ b′ : Term} (n : ℕ) → Cell g (context g′) xs → Cell t (term (Snd p′)) xs → Cell p (term p′) xs → Cell b (term b′) xs → Matches o xs (P.snd-beta c n g t p b) (B.snd-beta d n g′ p′ b′) Steps
+  unfolding P.snd-beta B.snd-beta
+  snd-beta-matches n g t p b =
+      three-then _ _ (subject-matches c d L n g p) λ _ _ x _ _ _ e₁ _ tb.
+      pair-then _ _ (transform-at-fst c d L tb (cell-lift e₁ p)) λ _ z _ _ e₂ ty.
+      let f₂ = extends-trans e₁ e₂ in
+      at-end-matches n x z _ (cell-lift f₂ g) (cell-lift f₂ t) (cell-lift f₂ b) ty
+
   pub reduce-matches : {xs : List Thing} {g t : ℕ} {g′ : Context} {t′ : Term} (n : ℕ) → Cell g (context g′) xs → Cell t (term t′) xs → Matches o xs (P.reduce-body c n g t) (B.reduce-body d n g′ t′) Steps
   unfolding P.reduce-body B.reduce-body when_then_else_
   reduce-matches {g′ = g′} n g t =
@@ -100,6 +117,10 @@ module _ {o : Before} {rd : M (Unit {0})} (c : Callees) (d : D.Callees) (L : Lin
       (λ _ _ _ _ _ _ _ _ _ _ _. giving _ _ λ _ _. no-step)
       (λ _ _ _ _ _ _ _ _. giving _ _ λ _ _. no-step)
       (λ _ _ _ _ _ k p r. reduce-papp-matches n g (k .cell) p r)
+      (λ _ _ _ _ _ _ _ _. giving _ _ λ _ _. no-step)
+      (λ _ _ _ _ _ _ _ _ _ _ _. giving _ _ λ _ _. no-step)
+      (λ _ _ _ k p. at-pair _ _ p (λ _ _ _ _ _ _ _ _ a _. fst-beta-matches n g (k .cell) p a) (giving _ _ λ _ _. no-step))
+      (λ _ _ _ k p. at-pair _ _ p (λ _ _ _ _ _ _ _ _ _ b. snd-beta-matches n g (k .cell) p b) (giving _ _ λ _ _. no-step))
 
 -- a step that is found, or none
 stepped : {A E : Type 0} {o : Before} {xs : List Thing} {Q : E → A → List Thing → Type 0} {p : Option Reduction} {r : Option D.Step} {z : W E} {y : M A} (f : Reduction → W E) (h : D.Step → M A) → Steps p r xs → ((s s′ : ℕ) (x : ℕ) (t t′ : Term) → Cell s (term t) xs → Cell s′ (term t′) xs → Matches o xs (f (record { term = s; type = s′; row = x })) (h (record { term = t; type = t′; row = x })) Q) → Matches o xs z y Q → Matches o xs (P.on-step p f z) (from r get h or y) Q

@@ -14,7 +14,7 @@ use Rattle.producer.specs.Machine.{W, when_then_else_, make-var, refs-1}
 use Rattle.producer.specs.Machine as C
 use Rattle.producer.specs.Callees.{Callees}
 use Rattle.producer.specs.Transforms as P
-use Rattle.walk.specs.Syntax.{Interval, Term, Var, Pi, quote}
+use Rattle.walk.specs.Syntax.{Interval, Term, Var, Pi, Sigma, Fst, Snd, quote}
 use Rattle.walk.specs.State.{Thing, term, interval, of-term, M, count-all}
 use Rattle.walk.specs.State as S
 use Rattle.walk.specs.Walk.Reference as D
@@ -25,7 +25,7 @@ use Rattle.link.specs.Tables.{j-shift, j-subst, j-dshift, j-dsubst}
 use Rattle.link.specs.Holds.{Before, less, equal}
 use Rattle.link.specs.Match.{Matches, bind, giving, branch, lowest-of-cell, the-term, passing, Same, Returns, Cites, cite-0, cite-1, cite-2, cite-3, no-row, one-row, cite-join, cite-and, cite-few, emitting}
 use Rattle.link.specs.Open.{opening-term}
-use Rattle.link.specs.Linked.{Linked, i-shift, i-subst, Ops, o-shift, o-subst, o-dshift, o-dsubst, ops-lift, Moves, Carries, row-then, pair-then, cited-then, bumping, less-one, making-var, making-pi, making-lam, making-app, making-path, making-plam, making-papp}
+use Rattle.link.specs.Linked.{Linked, i-shift, i-subst, Ops, o-shift, o-subst, o-dshift, o-dsubst, ops-lift, Moves, Carries, row-then, pair-then, cited-then, bumping, less-one, making-var, making-pi, making-lam, making-app, making-path, making-plam, making-papp, making-sigma, making-pair, making-fst, making-snd}
 
 -- the end of a transform
 module _ {o : Before} {xs : List Thing} {l : Refs} {refs : List ℕ} where
@@ -110,8 +110,15 @@ module _ {o : Before} {rd : M (Unit {0})} (c : Callees) (d : D.Callees) (L : Lin
       let e = extends-trans e₁₂ e₃ in
       rw is (finish _ _ (cite-and r few (lit< tt) cite-1) (cell-lift e h) (ops-lift e op) (making _ _ _ _ _ (cell-lift (extends-trans e₂ e₃) x′) y′))
 
+  -- one part: a projection
+  tprojection-matches : {xs : List Thing} {i p : ℕ} {p′ : Term} {a : Op} {b : D.Op} (kind : ℕ) (node : Term → Term) (rule : D.Op → ℕ) → P.rule-of a kind ≡ rule b → ((x : ℕ) (x′ : Term) (ys : List Thing) → Cell x (term x′) ys → Matches o ys (C.intern kind x 0 0) (count-all (of-term (node x′))) (λ n _. Cell n (term (node x′)))) → Cell i (term (node p′)) xs → Cell p (term p′) xs → Ops xs a b → Matches o xs (P.transform-projection c i a kind p) (B.tprojection d node rule p′ b) (Returns term)
+  unfolding P.transform-projection B.tprojection
+  tprojection-matches kind node rule is making h x op =
+      pair-then _ _ (L .transform x op) λ _ _ _ _ e x′.
+      rw is (finish _ _ cite-1 (cell-lift e h) (ops-lift e op) (making _ _ _ x′))
+
   pub transform-matches : {xs : List Thing} {i : ℕ} {t : Term} {p : Op} {q : D.Op} → Cell i (term t) xs → Ops xs p q → Matches o xs (P.transform-body c i p) (B.transform-body d t q) (Returns term)
-  unfolding P.transform-body P.compound P.rule-of P.transform-lam P.transform-app P.transform-path P.transform-plam P.transform-papp B.transform-body when_then_else_
+  unfolding P.transform-body P.compound P.rule-of P.transform-lam P.transform-app P.transform-path P.transform-plam P.transform-papp P.transform-pair B.transform-body when_then_else_
   transform-matches {q = q} h op =
       opening-term _ (λ t. B.transform-body d t q) h
       (λ _ _ k. finished-by _ _ _ _ _ cite-0 (k .cell) op (k .cell))
@@ -152,3 +159,13 @@ module _ {o : Before} {rd : M (Unit {0})} (c : Callees) (d : D.Callees) (L : Lin
       cited-then _ _ (tinterval-matches (cell-lift e₁ y) (ops-lift e₁ op)) λ _ _ _ _ _ e₂ y′ few.
       let e = extends-trans e₁ e₂ in
       finish-by _ _ _ _ _ (cite-few r few) (cell-lift e (k .cell)) (ops-lift e op) (making-papp (cell-lift e₂ x′) y′))
+      (λ _ _ _ _ _ k x y. tbinder-matches 11 Sigma B.sigma-rule (op-rule _ _ _ _ op) (λ _ _ _ _ _ h k. making-sigma h k) (k .cell) x y op)
+      (λ _ _ _ _ _ _ _ k x y z.
+      pair-then _ _ (L .transform x op) λ _ _ _ _ e₁ x′.
+      pair-then _ _ (L .transform (cell-lift e₁ y) (ops-lift e₁ op)) λ _ _ _ _ e₂ y′.
+      let e₁₂ = extends-trans e₁ e₂ in
+      pair-then _ _ (L .transform (cell-lift e₁₂ z) (ops-lift e₁₂ op)) λ _ _ _ _ e₃ z′.
+      let e = extends-trans e₁₂ e₃ in
+      finish-by _ _ _ _ _ cite-2 (cell-lift e (k .cell)) (ops-lift e op) (making-pair (cell-lift (extends-trans e₂ e₃) x′) (cell-lift e₃ y′) z′))
+      (λ _ _ _ k x. tprojection-matches 13 Fst B.fst-rule (op-rule _ _ _ _ op) (λ _ _ _ h. making-fst h) (k .cell) x op)
+      (λ _ _ _ k x. tprojection-matches 14 Snd B.snd-rule (op-rule _ _ _ _ op) (λ _ _ _ h. making-snd h) (k .cell) x op)

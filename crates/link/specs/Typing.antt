@@ -4,12 +4,12 @@ use mathlib.Core.Path.{_≡_, refl, sym, subst}
 use mathlib.Core.List.{List}
 use native.Mathlib.Decide.{ℕ-discrete}
 use Rattle.producer.specs.declared.rows.Refs.{Refs}
-use Rattle.producer.specs.declared.transforms.Op.the-variants.{DSubst}
-use Rattle.producer.specs.Machine.{W, Finding, when_then_else_, emit-has, emit-eq, make-universe, make-cons, make-i0, make-i1}
+use Rattle.producer.specs.declared.transforms.Op.the-variants.{Subst, DSubst}
+use Rattle.producer.specs.Machine.{W, Finding, when_then_else_, emit-has, emit-eq, make-universe, make-fst, make-cons, make-i0, make-i1}
 use Rattle.producer.specs.Machine as C
 use Rattle.producer.specs.Callees.{Callees, for-call}
 use Rattle.producer.specs.Typing as P
-use Rattle.walk.specs.Syntax.{I0, I1, Term, Universe, Context, Cons, quote, quotes}
+use Rattle.walk.specs.Syntax.{I0, I1, Term, Universe, Fst, Context, Cons, quote, quotes}
 use Rattle.walk.specs.Judgment.{has, eq}
 use Rattle.walk.specs.State.{Thing, term, interval, context, of-term, M, count-all}
 use Rattle.walk.specs.State as S
@@ -20,9 +20,9 @@ use Rattle.link.specs.Lists.{Extends, extends-trans}
 use Rattle.link.specs.Things.{Cell, cell-lift}
 use Rattle.link.specs.Tables.{j-has, j-eq}
 use Rattle.link.specs.Holds.{Before, equal}
-use Rattle.link.specs.Match.{Matches, bind, giving, stopping, branch, lowest-of-cell, the-term, the-context, _with_, having, Same, Cites, cite-1, cite-2, cite-3, cite-4, cite-7, cite-10, emitting, Pairs, Returns, recalling, remembering, converting, preceding, following, regrouped, given, calling}
-use Rattle.link.specs.Open.{opening-term, at-universe, at-pi, at-path, same-quote}
-use Rattle.link.specs.Linked.{Linked, o-subst, o-dsubst, Alike, row-then, pair-then, number-then, bumping, larger-is, making-universe, making-nat, making-pi, making-path, making-i0, making-i1, making-cons}
+use Rattle.link.specs.Match.{Matches, bind, giving, stopping, branch, lowest-of-cell, the-term, the-context, _with_, having, Same, Cites, cite-1, cite-2, cite-3, cite-4, cite-6, cite-7, cite-10, emitting, Pairs, Returns, recalling, remembering, converting, preceding, following, regrouped, given, calling}
+use Rattle.link.specs.Open.{opening-term, at-universe, at-pi, at-path, at-sigma, same-quote}
+use Rattle.link.specs.Linked.{Linked, o-subst, o-dsubst, Alike, row-then, pair-then, number-then, bumping, larger-is, making-universe, making-nat, making-pi, making-path, making-fst, making-i0, making-i1, making-cons}
 
 -- rows by quotes
 module _ {o : Before} {xs : List Thing} {l : Refs} {refs : List ℕ} {g t y : ℕ} {g′ : Context} {t′ y′ : Term} where
@@ -35,16 +35,16 @@ module _ {o : Before} {xs : List Thing} {l : Refs} {refs : List ℕ} {g t y : �
   emitting-eq rule n c hg ht hb hy = lowest-of-cell tt hg λ _ g. lowest-of-cell tt ht λ _ t. lowest-of-cell tt hb λ _ b. lowest-of-cell tt hy λ _ y. emitting (j-eq g t b y) rule c
 
 -- two or three cells and a row
-record Three (p : ℕ × ℕ × ℕ) (r : Term × Term × ℕ) (xs : List Thing) : Type 0 where
-  one : Cell (p .0) (term (r .0)) xs
-  two : Cell (p .1) (term (r .1)) xs
-  row : p .2 ≡ r .2
+pub record Three (p : ℕ × ℕ × ℕ) (r : (Term × Term) × ℕ) (xs : List Thing) : Type 0 where
+  pub one : Cell (p .0) (term (r .0 .0)) xs
+  pub two : Cell (p .1) (term (r .0 .1)) xs
+  pub row : p .2 ≡ r .1
 
-pub record Four (p : ℕ × ℕ × ℕ × ℕ) (r : Term × Term × Term × ℕ) (xs : List Thing) : Type 0 where
-  pub one : Cell (p .0) (term (r .0)) xs
-  pub two : Cell (p .1) (term (r .1)) xs
-  pub three : Cell (p .2) (term (r .2)) xs
-  pub row : p .3 ≡ r .3
+pub record Four (p : ℕ × ℕ × ℕ × ℕ) (r : (Term × Term × Term) × ℕ) (xs : List Thing) : Type 0 where
+  pub one : Cell (p .0) (term (r .0 .0)) xs
+  pub two : Cell (p .1) (term (r .0 .1)) xs
+  pub three : Cell (p .2) (term (r .0 .2)) xs
+  pub row : p .3 ≡ r .1
 
 record Finds (p : Finding) (r : D.Found) (xs : List Thing) : Type 0 where
   type : Cell (p .type) (term (r .type)) xs
@@ -52,11 +52,11 @@ record Finds (p : Finding) (r : D.Found) (xs : List Thing) : Type 0 where
   rule : p .rule ≡ r .rule
 
 module _ {A E : Type 0} {o : Before} {xs : List Thing} {R : E → A → List Thing → Type 0} where
-  three-then : {m : W (ℕ × ℕ × ℕ)} {d : M (Term × Term × ℕ)} (f : ℕ × ℕ × ℕ → W E) (g : Term × Term × ℕ → M A) → Matches o xs m d Three → ((a b x : ℕ) (a′ b′ : Term) (ys : List Thing) → Extends xs ys → Cell a (term a′) ys → Cell b (term b′) ys → Matches o ys (f (a, b, x)) (g (a′, b′, x)) R) → Matches o xs (C._>>=_ m f) (S._>>=_ d g) R
-  three-then f g h k = bind h λ p r ys e q. subst (λ (x : ℕ). Matches o ys (f (p .0, p .1, x)) (g r) R) (sym (q .row)) (k (p .0) (p .1) (r .2) (r .0) (r .1) ys e (q .one) (q .two))
+  pub three-then : {m : W (ℕ × ℕ × ℕ)} {d : M ((Term × Term) × ℕ)} (f : ℕ × ℕ × ℕ → W E) (g : (Term × Term) × ℕ → M A) → Matches o xs m d Three → ((a b x : ℕ) (a′ b′ : Term) (ys : List Thing) → Extends xs ys → Cell a (term a′) ys → Cell b (term b′) ys → Matches o ys (f (a, b, x)) (g ((a′, b′), x)) R) → Matches o xs (C._>>=_ m f) (S._>>=_ d g) R
+  three-then f g h k = bind h λ p r ys e q. subst (λ (x : ℕ). Matches o ys (f (p .0, p .1, x)) (g r) R) (sym (q .row)) (k (p .0) (p .1) (r .1) (r .0 .0) (r .0 .1) ys e (q .one) (q .two))
 
-  pub four-then : {m : W (ℕ × ℕ × ℕ × ℕ)} {d : M (Term × Term × Term × ℕ)} (f : ℕ × ℕ × ℕ × ℕ → W E) (g : Term × Term × Term × ℕ → M A) → Matches o xs m d Four → ((a b c x : ℕ) (a′ b′ c′ : Term) (ys : List Thing) → Extends xs ys → Cell a (term a′) ys → Cell b (term b′) ys → Cell c (term c′) ys → Matches o ys (f (a, b, c, x)) (g (a′, b′, c′, x)) R) → Matches o xs (C._>>=_ m f) (S._>>=_ d g) R
-  four-then f g h k = bind h λ p r ys e q. subst (λ (x : ℕ). Matches o ys (f (p .0, p .1, p .2, x)) (g r) R) (sym (q .row)) (k (p .0) (p .1) (p .2) (r .3) (r .0) (r .1) (r .2) ys e (q .one) (q .two) (q .three))
+  pub four-then : {m : W (ℕ × ℕ × ℕ × ℕ)} {d : M ((Term × Term × Term) × ℕ)} (f : ℕ × ℕ × ℕ × ℕ → W E) (g : (Term × Term × Term) × ℕ → M A) → Matches o xs m d Four → ((a b c x : ℕ) (a′ b′ c′ : Term) (ys : List Thing) → Extends xs ys → Cell a (term a′) ys → Cell b (term b′) ys → Cell c (term c′) ys → Matches o ys (f (a, b, c, x)) (g ((a′, b′, c′), x)) R) → Matches o xs (C._>>=_ m f) (S._>>=_ d g) R
+  four-then f g h k = bind h λ p r ys e q. subst (λ (x : ℕ). Matches o ys (f (p .0, p .1, p .2, x)) (g r) R) (sym (q .row)) (k (p .0) (p .1) (p .2) (r .1) (r .0 .0) (r .0 .1) (r .0 .2) ys e (q .one) (q .two) (q .three))
 
 module _ {o : Before} {rd : M (Unit {0})} (c : Callees) (d : D.Callees) (L : Linked o rd c d) where
   -- calls with an argument that is made
@@ -81,6 +81,9 @@ module _ {o : Before} {rd : M (Unit {0})} (c : Callees) (d : D.Callees) (L : Lin
 
   transform-at-1 : {xs : List Thing} {t : ℕ} {t′ : Term} → Cell t (term t′) xs → Matches o xs (for-call c make-i1 λ r. c .transform t (DSubst 0 r)) (d .transform t′ (D.DSubst 0 I1)) (Returns term)
   transform-at-1 t = calling c _ (L .transform-absorbs _ _) (L .ready) (λ ys e. preceding _ (the-term (cell-lift e t)) making-i1) λ r ys e q. L .transform (cell-lift e t) (o-dsubst q)
+
+  pub transform-at-fst : {xs : List Thing} {t p : ℕ} {t′ p′ : Term} → Cell t (term t′) xs → Cell p (term p′) xs → Matches o xs (for-call c (make-fst p) λ f. c .transform t (Subst 0 f)) (d .transform t′ (D.Subst 0 (Fst p′))) (Returns term)
+  transform-at-fst t p = calling c _ (L .transform-absorbs _ _) (L .ready) (λ ys e. preceding _ (the-term (cell-lift e t)) (making-fst (cell-lift e p))) λ f ys e q. L .transform (cell-lift e t) (o-subst q)
 
   -- both ends of a term, and what follows
   ends-then : {A E : Type 0} {xs : List Thing} {R : E → A → List Thing → Type 0} {t : ℕ} {t′ : Term} (f : ℕ × ℕ × ℕ × ℕ → W E) (g : Term × ℕ → Term × ℕ → M A) → Cell t (term t′) xs → ((t0 t1 x y : ℕ) (t0′ t1′ : Term) (ys : List Thing) → Extends xs ys → Cell t0 (term t0′) ys → Cell t1 (term t1′) ys → Matches o ys (f (t0, t1, x, y)) (g (t0′, x) (t1′, y)) R) → Matches o xs (C._>>=_ (P.ends c t) f) (S._>>=_ (d .transform t′ (D.DSubst 0 I0)) λ p. S._>>=_ (d .transform t′ (D.DSubst 0 I1)) λ q. g p q) R
@@ -131,7 +134,7 @@ module _ {o : Before} {rd : M (Unit {0})} (c : Callees) (d : D.Callees) (L : Lin
       (λ _. stopping _)))
 
   as-pi-matches : {xs : List Thing} {g t y : ℕ} {g′ : Context} {t′ y′ : Term} (n : ℕ) → Cell g (context g′) xs → Cell t (term t′) xs → Cell y (term y′) xs → (row : ℕ) → Matches o xs (P.as-pi c n g t y row) (B.as-pi d n g′ t′ y′ row) Three
-  unfolding P.as-pi P.opened B.as-pi
+  unfolding P.as-pi P.opened B.as-parts
   as-pi-matches n g t y row =
       at-pi _ _ y
       (λ _ _ _ _ _ a b. giving _ _ λ _ f. record { one = cell-lift f a; two = cell-lift f b; row = refl })
@@ -139,12 +142,21 @@ module _ {o : Before} {rd : M (Unit {0})} (c : Callees) (d : D.Callees) (L : Lin
       at-pi _ _ y′ (λ _ _ _ _ _ a b. giving _ _ λ _ f. record { one = cell-lift f a; two = cell-lift f b; row = refl }) (stopping _))
 
   pub as-path-matches : {xs : List Thing} {g t y : ℕ} {g′ : Context} {t′ y′ : Term} (n : ℕ) → Cell g (context g′) xs → Cell t (term t′) xs → Cell y (term y′) xs → (row : ℕ) → Matches o xs (P.as-path c n g t y row) (B.as-path d n g′ t′ y′ row) Four
-  unfolding P.as-path P.opened B.as-path
+  unfolding P.as-path P.opened B.as-parts
   as-path-matches n g t y row =
       at-path _ _ y
       (λ _ _ _ _ _ _ _ a b e. giving _ _ λ _ f. record { one = cell-lift f a; two = cell-lift f b; three = cell-lift f e; row = refl })
       (pair-then _ _ (converting (L .expose n g t y row)) λ _ _ _ _ _ y′.
       at-path _ _ y′ (λ _ _ _ _ _ _ _ a b e. giving _ _ λ _ f. record { one = cell-lift f a; two = cell-lift f b; three = cell-lift f e; row = refl }) (stopping _))
+
+  pub subject-matches : {xs : List Thing} {g p : ℕ} {g′ : Context} {p′ : Term} (n : ℕ) → Cell g (context g′) xs → Cell p (term p′) xs → Matches o xs (P.subject c n g p) (B.subject d n g′ p′) Three
+  unfolding P.subject P.opened B.subject B.as-parts
+  subject-matches n g p =
+      pair-then _ _ (L .infer n g p) λ _ row _ _ e₁ ty.
+      at-sigma _ _ ty
+      (λ _ _ _ _ _ a b. giving _ _ λ _ f. record { one = cell-lift f a; two = cell-lift f b; row = refl })
+      (pair-then _ _ (converting (L .expose n (cell-lift e₁ g) (cell-lift e₁ p) ty row)) λ _ _ _ _ _ ty′.
+      at-sigma _ _ ty′ (λ _ _ _ _ _ a b. giving _ _ λ _ f. record { one = cell-lift f a; two = cell-lift f b; row = refl }) (stopping _))
 
   founding : {xs : List Thing} {make : W ℕ} {l : Refs} {refs : List ℕ} (ty : Term) (rule : ℕ) → Cites l refs → Matches o xs make (count-all (of-term ty)) (λ n _. Cell n (term ty)) → Matches o xs (P.found make l rule) (B.found ty refs rule) Finds
   unfolding P.found B.found
@@ -158,8 +170,24 @@ module _ {o : Before} {rd : M (Unit {0})} (c : Callees) (d : D.Callees) (L : Lin
       row-then (L .max i j) λ _ _ _.
       rw (← larger-is i j) (founding _ _ cite-3 (making-universe (larger i j)))
 
+  pair-at-matches : {xs : List Thing} {g y ta tb a b : ℕ} {g′ : Context} {y′ ta′ tb′ a′ b′ : Term} (n : ℕ) → Cell g (context g′) xs → Cell y (term y′) xs → Cell ta (term ta′) xs → Cell tb (term tb′) xs → Cell a (term a′) xs → Cell b (term b′) xs → Matches o xs (P.pair-at c n g y ta tb a b) (B.find-pair d n g′ y′ ta′ tb′ a′ b′) Finds
+  unfolding P.pair-at B.find-pair
+  pair-at-matches n g y ta tb a b =
+      number-then _ _ (L .universe n g ta) λ _ _ _ e₁.
+      number-then _ _ (universe-of-cons n (cell-lift e₁ ta) (cell-lift e₁ g) (cell-lift e₁ tb)) λ j _ _ e₂.
+      let f₂ = extends-trans e₁ e₂ in
+      row-then (L .check n (cell-lift f₂ g) (cell-lift f₂ a) (cell-lift f₂ ta)) λ _ _ e₃.
+      let f₃ = extends-trans f₂ e₃ in
+      pair-then _ _ (L .transform (cell-lift f₃ tb) (o-subst (cell-lift f₃ a))) λ _ _ _ _ e₄ out.
+      let f₄ = extends-trans f₃ e₄ in
+      row-then (check-at n j (cell-lift f₄ g) out) λ _ _ e₅.
+      let f₅ = extends-trans f₄ e₅ in
+      row-then (L .check n (cell-lift f₅ g) (cell-lift f₅ b) (cell-lift e₅ out)) λ _ _ e₆.
+      let y₆ = cell-lift (extends-trans f₅ e₆) y in
+      founding _ _ cite-6 (having (the-term y₆) y₆)
+
   find-matches : {xs : List Thing} {g t : ℕ} {g′ : Context} {t′ : Term} (n : ℕ) → Cell g (context g′) xs → Cell t (term t′) xs → Matches o xs (P.find c n g t) (B.find d n g′ t′) Finds
-  unfolding P.find P.find-compound P.find-atom P.find-var P.find-lam P.find-app P.find-path P.path-ends P.find-plam P.plam-ends P.find-papp B.find when_then_else_
+  unfolding P.find P.find-compound P.find-atom P.find-var P.find-lam P.find-app P.find-path P.path-ends P.find-plam P.plam-ends P.find-papp P.find-pair P.find-fst P.find-snd B.find when_then_else_
   find-matches {g′ = g′} n g t =
       opening-term _ (B.find d n g′) t
       (λ _ l _. row-then (L .ctx n g) λ _ _ _. bumping _ l (L .more l) λ q. rw q (founding _ _ cite-1 (making-universe (suc l))))
@@ -222,6 +250,17 @@ module _ {o : Before} {rd : M (Unit {0})} (c : Callees) (d : D.Callees) (L : Lin
       pair-then _ _ (L .transform (cell-lift e₃ a) (o-dsubst (cell-lift f₃ r))) λ _ _ _ _ e₄ out.
       number-then _ _ (L .universe n (cell-lift (extends-trans f₃ e₄) g) out) λ _ _ _ e₅.
       founding _ _ cite-4 (having (the-term (cell-lift e₅ out)) (cell-lift e₅ out)))
+      (λ _ _ _ _ _ _ a b. find-binder-matches n _ g a b)
+      (λ _ _ _ _ _ _ _ _ y a b. at-sigma _ _ y (λ _ _ _ _ _ ta tb. pair-at-matches n g y ta tb a b) (stopping _))
+      (λ _ _ _ _ p.
+      three-then _ _ (subject-matches n g p) λ _ _ _ _ _ _ e₁ ta _.
+      number-then _ _ (L .universe n (cell-lift e₁ g) ta) λ _ _ _ e₂.
+      founding _ _ cite-2 (having (the-term (cell-lift e₂ ta)) (cell-lift e₂ ta)))
+      (λ _ _ _ _ p.
+      three-then _ _ (subject-matches n g p) λ _ _ _ _ _ _ e₁ _ tb.
+      pair-then _ _ (transform-at-fst tb (cell-lift e₁ p)) λ _ _ _ _ e₂ out.
+      number-then _ _ (L .universe n (cell-lift (extends-trans e₁ e₂) g) out) λ _ _ _ e₃.
+      founding _ _ cite-3 (having (the-term (cell-lift e₃ out)) (cell-lift e₃ out)))
 
   pub infer-matches : {xs : List Thing} {g t : ℕ} {g′ : Context} {t′ : Term} (n : ℕ) → Cell g (context g′) xs → Cell t (term t′) xs → Matches o xs (P.infer-body c n g t) (B.infer-body d n g′ t′) (Returns term)
   unfolding P.infer-body B.infer-body P.new-infer B.new-infer
