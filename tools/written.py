@@ -4,10 +4,12 @@
     python3 tools/written.py            writes them again
     python3 tools/written.py --check    changes nothing; names each file that is not as it would be written, and fails
 
-A section stands between a line that ends in `written by tools/written.py: NAME` and the line `end of NAME`, both comments. In a file with
-sections the `use` lines are kept too: one that names the first of a group of names (as Universe) names all of it.
+A section stands between a line that ends in `written by tools/written.py: NAME` and the line `end of NAME`, both comments. The `use` lines
+are kept too: in a file with sections one that names the first of a group of names (as Universe) names all of it, and in any other file one
+that names the first two of the kinds of terms (as Universe and Var), since that file goes by cases over them.
 What is written where: tools/sections, a file for each crate or tool. Run from anywhere; takes under a second.
 """
+import glob
 import os
 import re
 import sys
@@ -53,9 +55,13 @@ def main():
     os.chdir(os.path.join(os.path.dirname(os.path.abspath(__file__)), '..'))
     common.well_formed()
     bad = []
-    for path in sorted(set(common.files) | set(common.sections)):
+    others = glob.glob('crates/*/specs/**/*.antt', recursive=True)
+    for path in sorted(set(common.files) | set(common.sections) | set(others)):
         old = open(path, encoding='utf-8').read() if os.path.exists(path) else ''
-        new = common.files[path]() if path in common.files else with_sections(path, old)
+        if path in common.files:
+            new = common.files[path]()
+        else:
+            new = with_sections(path, old) if path in common.sections else common.with_uses(old, by_cases=True)
         if new != old:
             bad.append(path)
             if not check:

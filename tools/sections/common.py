@@ -167,6 +167,10 @@ GROUPS = {
 }
 
 
+# What a file that goes by cases over terms names.
+CASES = GROUPS['Syntax'][0]
+
+
 def with_group(items, group):
     """The items of a use line, the group's names in the place of the first of them; one that is renamed stays so."""
     base = [i.split(' as ')[0] for i in items]
@@ -178,10 +182,12 @@ def with_group(items, group):
     return rest[:at] + [known.get(g, g) for g in group] + rest[at:]
 
 
-def with_uses(text):
+def with_uses(text, by_cases=False):
+    """The text with its use lines kept; by_cases: only where a line names the first two kinds of terms."""
     def line(m):
         items = m.group(3).split(', ')
         for group in GROUPS[m.group(2)]:
-            items = with_group(items, group)
+            if not by_cases or (group is CASES and group[1] in items):
+                items = with_group(items, group)
         return '%s.{%s}' % (m.group(1), ', '.join(items))
     return re.sub(r'(?m)^(use \S+\.specs\.(%s))\.\{(.*)\}' % '|'.join(GROUPS), line, text)
