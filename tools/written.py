@@ -6,7 +6,7 @@
 
 A section stands between a line that ends in `written by tools/written.py: NAME` and the line `end of NAME`, both comments. The `use` lines
 are kept too: in a file with sections one that names the first of a group of names (as Universe) names all of it, and in any other file one
-that names the first two of the kinds of terms (as Universe and Var), since that file goes by cases over them.
+that names the first eight kinds of terms, since that file goes by cases over them.
 What is written where: tools/sections, a file for each crate or tool. Run from anywhere; takes under a second.
 """
 import glob

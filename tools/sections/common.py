@@ -183,11 +183,11 @@ def with_group(items, group):
 
 
 def with_uses(text, by_cases=False):
-    """The text with its use lines kept; by_cases: only where a line names the first two kinds of terms."""
+    """The text with its use lines kept; by_cases: only where a line names the first eight kinds of terms."""
     def line(m):
         items = m.group(3).split(', ')
         for group in GROUPS[m.group(2)]:
-            if not by_cases or (group is CASES and group[1] in items):
+            if not by_cases or (group is CASES and set(group[:8]) <= set(items)):
                 items = with_group(items, group)
         return '%s.{%s}' % (m.group(1), ', '.join(items))
     return re.sub(r'(?m)^(use \S+\.specs\.(%s))\.\{(.*)\}' % '|'.join(GROUPS), line, text)
