@@ -1,5 +1,6 @@
-"""crates/syntax: the parts of each kind, and for each a clause of the proofs about reading, depth and size."""
-from .common import INTERVALS, NOTE, TERMS, applied, for_both, is_number, nested, node, parts_of, section, whole
+"""crates/syntax: the codes of calls with their terms; the parts of each kind, and for each a clause of the proofs about reading, depth and
+size."""
+from .common import CALLS, INTERVALS, NOTE, TERMS, applied, for_both, is_number, nested, node, parts_of, section, whole
 from .walk import reading, size_after
 
 SPECS, PROOFS = 'crates/syntax/specs/', 'crates/syntax/proofs/'
@@ -180,3 +181,46 @@ use Rattle.syntax.proofs.parts.of_{sort}.Tie as tie
 
 whole(PROOFS + 'parts/of_term/Proof.antt')(lambda: proof('term', TERMS))
 whole(PROOFS + 'parts/of_interval/Proof.antt')(lambda: proof('interval', INTERVALS))
+
+
+# ---- calls.rt: the codes of calls; how many terms follow each, as a match on the code, and its proof, an arm a code
+
+def called(c):
+    return 'calls::' + c.name.upper()
+
+
+@whole('crates/syntax/src/calls.rt')
+def _():
+    codes = '\n\n'.join('pub const %s: u8 = %d;' % (c.name.upper(), c.code) for c in CALLS)
+    return f'''// The codes of calls: docs/FORMAT.md.
+// {NOTE}
+
+{codes}
+
+// No code is higher.
+pub const HIGHEST: u8 = {max(c.code for c in CALLS)};
+'''
+
+
+section('crates/syntax/src/scan.rt', 'terms of a call')(lambda: ['%s => %d,' % (called(c), len(c.terms)) for c in CALLS])
+section(SPECS + 'Told.antt', 'numbers of codes')(lambda: ['code-number c-%s = %d' % (c.name, c.code) for c in CALLS])
+
+
+@whole(PROOFS + 'scan/terms_of/Proof.antt')
+def _():
+    out = [f'''-- `scan::terms_of` meets its contract: each arm is an entry of the table of codes, and past the last there is none.
+-- {NOTE}
+use mathlib.Core.Option.{{none}}
+use native.Mathlib.Omega.{{arith}}
+use lib.ListN.{{List·getD-eq-default}}
+use Rattle.walk.specs.Reader.{{codes}}
+use Rattle.syntax.specs.Told.{{terms-in}}
+use Rattle.syntax.proofs.scan.terms_of.Statement.{{statement}}
+use Rattle.syntax.proofs.scan.terms_of.Tie as tie
+''']
+    names = ['returns'] + ['returns-%d' % n for n in range(2, len(CALLS) + 2)]
+    by = ['c .match .keys%d' % (n + 1) for n in range(len(CALLS))]
+    by.append('List·getD-eq-default codes none {n = c .before .args .code} (omega arith)')
+    out += ['%s : tie.Need-%s\nunfolding terms-in\n%s c = rw (%s)\n' % (name, name, name, fact) for name, fact in zip(names, by)]
+    out.append('pub terms-of-spec : {M : Type 1} → statement M\nterms-of-spec = tie.close (tie.spec %s)\n' % ' '.join(names))
+    return '\n'.join(out)

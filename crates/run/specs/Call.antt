@@ -8,10 +8,10 @@ use Rattle.producer.specs.Machine.{W, _>>=_, give, stop, when_then_else_, inter
 use Rattle.producer.specs.Callees.{prepared}
 use Rattle.producer.specs.Calls.{callees}
 use Rattle.walk.specs.Refusal as Refusal
-use Rattle.walk.specs.Reader.{read-head}
+use Rattle.walk.specs.Reader.{c-context, c-universe, c-infer, c-check, c-normalise, read-head}
 use Rattle.syntax.specs.declared.scan.Heading.{Heading}
 use Rattle.syntax.specs.declared.scan.Heading.the-variants.{Is, Bad}
-use Rattle.syntax.specs.Told.{head-of}
+use Rattle.syntax.specs.Told.{code-number, head-of}
 use Rattle.run.specs.Build.{built, scoped}
 
 -- a row with no result, and a result before its row
@@ -33,20 +33,20 @@ with-sides left bytes at d g a b = do
 unfoldable pub with-term : ℕ → List ℕ → (at code d g t : ℕ) → W (ℕ × ℕ)
 with-term left bytes at code d g t = do
   (u, next) ← built 33 bytes at
-  when eqb code 3 then row-alone (callees left .check d g t u)
+  when eqb code (code-number c-check) then row-alone (callees left .check d g t u)
       else
-      (when eqb code 4 then row-first (callees left .normalize d g t u)
+      (when eqb code (code-number c-normalise) then row-first (callees left .normalize d g t u)
       else with-sides left bytes next d g t u)
 
 -- the function of a code, whose terms start at an offset
 unfoldable pub by-code : ℕ → List ℕ → (at code d g : ℕ) → W (ℕ × ℕ)
 by-code left bytes at code d g =
-    when eqb code 0 then row-alone (callees left .ctx d g)
+    when eqb code (code-number c-context) then row-alone (callees left .ctx d g)
     else (do
       (t, next) ← built 33 bytes at
-      when eqb code 1 then row-first (callees left .universe d g t)
+      when eqb code (code-number c-universe) then row-first (callees left .universe d g t)
           else
-          (when eqb code 2 then row-first (callees left .infer d g t)
+          (when eqb code (code-number c-infer) then row-first (callees left .infer d g t)
           else with-term left bytes next code d g t))
 
 -- the function is entered, then its arguments are made: the context first, so many types that start at an offset

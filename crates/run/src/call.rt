@@ -14,6 +14,7 @@ use producer::state::Got;
 use producer::state::State;
 use producer::state::Two;
 use syntax::Heading;
+use syntax::calls;
 use syntax::head_at;
 
 // The row and the result of the call at `at`, or its refusal. In a run that was read, no head is bad.
@@ -35,7 +36,7 @@ pub fn call(state: State, bytes: &[u8], at: u32, rows: &mut [u32], cells: &mut [
         types,
         rows,
         cells,
-        wide(code),
+        code,
         wide(dims),
         wide(size),
     )
@@ -49,7 +50,7 @@ pub fn enter_context(
     at: u32,
     rows: &mut [u32],
     cells: &mut [u32],
-    code: u32,
+    code: u8,
     d: u32,
     count: u32,
 ) -> Two
@@ -75,13 +76,13 @@ pub fn enter(
     at: u32,
     rows: &mut [u32],
     cells: &mut [u32],
-    code: u32,
+    code: u8,
     d: u32,
     g: u32,
 ) -> Two
     ensures { λ r. ⌜ end-2 r (now (rows .exit)) (now (cells .exit)) ≡ by-code left (now (bytes .entry)) at code d g (machine (now (rows .entry)) (now (cells .entry)) state) ⌝ }
 {
-    if code == 0 {
+    if code == calls::CONTEXT {
         return match state.ctx(left, rows, cells, d, g) {
             Got::Is(s, row) => Two::Pair(s, row, 0),
             Got::Refused(s, e) => Two::Refused(s, e),
@@ -92,13 +93,13 @@ pub fn enter(
         return q;
     };
     match code {
-        1 => {
+        calls::UNIVERSE => {
             return match s1.universe(left, rows, cells, d, g, t) {
                 Two::Pair(s, level, row) => Two::Pair(s, row, level),
                 Two::Refused(s, e) => Two::Refused(s, e),
             };
         }
-        2 => {
+        calls::INFER => {
             return match s1.infer(left, rows, cells, d, g, t) {
                 Two::Pair(s, ty, row) => Two::Pair(s, row, ty),
                 Two::Refused(s, e) => Two::Refused(s, e),
@@ -117,7 +118,7 @@ pub fn enter_two(
     at: u32,
     rows: &mut [u32],
     cells: &mut [u32],
-    code: u32,
+    code: u8,
     d: u32,
     g: u32,
     t: u32,
@@ -129,13 +130,13 @@ pub fn enter_two(
         return q;
     };
     match code {
-        3 => {
+        calls::CHECK => {
             return match s1.check(left, rows, cells, d, g, t, u) {
                 Got::Is(s, row) => Two::Pair(s, row, 0),
                 Got::Refused(s, e) => Two::Refused(s, e),
             };
         }
-        4 => {
+        calls::NORMALISE => {
             return match s1.normalize(left, rows, cells, d, g, t, u) {
                 Two::Pair(s, normal, row) => Two::Pair(s, row, normal),
                 Two::Refused(s, e) => Two::Refused(s, e),

@@ -47,12 +47,15 @@ next-in false r = next-of r
 -- the head of a call
 
 abbrev pub code-number : Code → ℕ
+-- written by tools/written.py: numbers of codes
 code-number c-context = 0
 code-number c-universe = 1
 code-number c-infer = 2
 code-number c-check = 3
 code-number c-normalise = 4
 code-number c-equal = 5
+
+-- end of numbers of codes
 
 unfoldable pub head-of : Read Head → Heading
 head-of (got head rest at) = Is (code-number (head .code)) (head .dims) (head .size)

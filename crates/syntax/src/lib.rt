@@ -1,4 +1,5 @@
 // The reader of a run's bytes: whether they are a run, and the limits of its calls.
+pub mod calls;
 pub mod codes;
 pub mod cursor;
 pub mod limits;

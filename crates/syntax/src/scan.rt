@@ -6,6 +6,7 @@ ghost use mathlib.Core.Option.{none};
 ghost use lib.ListN.{length, drop, getD};
 ghost use Rattle.walk.specs.Reader.{codes, read-head as walk-head, read-limit as walk-limit, read-calls};
 ghost use Rattle.syntax.specs.Told.{term-at, terms-at, call-at, short, next-in, head-of, terms-in, limit-of, counted, scanned};
+use super::calls;
 use super::cursor::head_at;
 use super::cursor::limit_of;
 use super::cursor::past_at;
@@ -96,9 +97,14 @@ pub fn terms_of(code: u8) -> usize
     ensures { λ r. ⌜ r ≡ terms-in (getD codes code none) ⌝ }
 {
     match code {
-        1 | 2 => 1,
-        3 | 4 => 2,
-        5 => 3,
+        // written by tools/written.py: terms of a call
+        calls::CONTEXT => 0,
+        calls::UNIVERSE => 1,
+        calls::INFER => 1,
+        calls::CHECK => 2,
+        calls::NORMALISE => 2,
+        calls::EQUAL => 3,
+        // end of terms of a call
         _ => 0,
     }
 }
@@ -111,7 +117,7 @@ pub fn read_head(s: &[u8], from: usize) -> Heading
         return Heading::Bad(from);
     }
     let code = s[from];
-    if 5 < code {
+    if calls::HIGHEST < code {
         return Heading::Bad(from);
     }
     let second = from + 1;

@@ -33,9 +33,6 @@ wide-requires c κs = search needs
 wide-requires-2 : tie.Need-wide-requires-2
 wide-requires-2 c κs = search needs
 
-wide-requires-3 : tie.Need-wide-requires-3
-wide-requires-3 c κs = search needs
-
 enter-context-requires : tie.Need-enter-context-requires
 enter-context-requires c κs = search needs
 
@@ -47,8 +44,8 @@ same-length-2 c = search needs
 
 returns-2 : tie.Need-returns-2
 unfolding called steps called-in headed
-returns-2 c = rw (← c .before .before .before .before .before .before .before .before .before .before .before .before .before .before .before .before .head-at .ensures, c .before .before .before .before .before .before .before .before .before .before .before .before .before .before .head .given .1, ← c .before .before .before .before .before .before .before .before .before .before .before .before .succ .ensures, ← c .before .before .before .before .before .before .before .before .before .before .before .succ2 .ensures, ← c .before .before .before .before .before .before .before .before .before .before .succ3 .ensures, ← c .before .before .before .before .before .before .before .wide .ensures)
-    (rw (← c .before .before .before .before .before .before .wide2 .ensures, ← c .before .before .before .before .before .wide3 .ensures, ← c .before .before .before .before .enter-context .ensures))
+returns-2 c = rw (← c .before .before .before .before .before .before .before .before .before .before .before .before .before .before .before .head-at .ensures, c .before .before .before .before .before .before .before .before .before .before .before .before .before .head .given .1, ← c .before .before .before .before .before .before .before .before .before .before .before .succ .ensures, ← c .before .before .before .before .before .before .before .before .before .before .succ2 .ensures, ← c .before .before .before .before .before .before .before .before .before .succ3 .ensures, ← c .before .before .before .before .before .before .wide .ensures)
+    (rw (← c .before .before .before .before .before .wide2 .ensures, ← c .before .before .before .before .enter-context .ensures))
 
 pub call-spec : {M : Type 1} → statement M
 call-spec =
@@ -63,7 +60,6 @@ call-spec =
     succ-requires-3
     wide-requires
     wide-requires-2
-    wide-requires-3
     enter-context-requires
     same-length
     same-length-2
