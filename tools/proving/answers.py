@@ -2,7 +2,6 @@
 
 # Further names to unfold.
 UNFOLD = {
-    'call': 'called-in headed',
     'step': 'turned-by',
     'play-run': 'run-by read-run',
     'link-cell': 'linked cell-end',

@@ -2,15 +2,16 @@
 use Prim.Native.Nat.{ℕ, zero, suc, _+_, _≤_, _<_}
 use mathlib.Core.Path.{_≡_, refl, sym, ap, _∙_}
 use mathlib.Core.List.{List}
-use mathlib.Core.Option.{none, some}
+use mathlib.Core.Option.{Option, none, some}
 use native.Mathlib.Omega.{arith}
 use native.Mathlib.Numerals.{add-one}
 use native.Mathlib.Decide.{decLt}
 use lib.ListN.{length, getD, drop, drop-of-length-le, List·getD-eq-default}
 use lib.Seq.{drop-cons}
 use Rattle.walk.specs.Reader.{Read, got, bad, read-on, _>>=_, ok, byte, meant, one-of, Code, c-context, c-universe, c-infer, c-check, c-normalise, c-equal, codes, terms-of, Head, read-head}
-use Rattle.syntax.specs.Told.{code-number, head-of, terms-in}
+use Rattle.syntax.specs.Told.{code-number, head-in, head-of, terms-in}
 use Rattle.syntax.specs.Ends.{Stops, ends, goes-head}
+use Rattle.syntax.specs.declared.scan.CallHead.{CallHead}
 use Rattle.syntax.specs.declared.scan.Heading.the-variants.{Is, Bad}
 
 pub record IsCode (b : ℕ) : Type 0 where
@@ -90,19 +91,17 @@ headed bytes from {head} {rest} {end} e = at-start (decLt from (length bytes))
     at-start (no h) = absurd (let q : bad from ≡ got head rest end = sym (head-none bytes from (omega arith)) ∙ e in let z : _≡_ {A = ℕ} 0 1 = cc in omega arith)
 
 -- What `read_head` tells of the head.
-pub record Tells (c d n : ℕ) (r : Read Head) : Type 0 where
+pub record Tells (told : CallHead) (r : Read Head) : Type 0 where
   pub head : Head
   pub rest : List ℕ
   pub end : ℕ
   pub reads : r ≡ got head rest end
-  pub code : c ≡ code-number (head .code)
-  pub dims : d ≡ head .dims
-  pub size : n ≡ head .size
+  pub is : told ≡ head-in (head .code) (head .dims) (head .size)
 
-pub tells : (code dims size : ℕ) (r : Read Head) → Is code dims size ≡ head-of r → Tells code dims size r
+pub tells : (told : CallHead) (r : Read Head) → Is told ≡ head-of r → Tells told r
 unfolding head-of
-tells code dims size (got head rest end) e = record { head = head; rest = rest; end = end; reads = refl; code = cc; dims = cc; size = cc }
-tells code dims size (bad place) e = absurd (let z : _≡_ {A = ℕ} 0 1 = cc in omega arith)
+tells told (got head rest end) e = record { head = head; rest = rest; end = end; reads = refl; is = cc }
+tells told (bad place) e = absurd (let z : _≡_ {A = ℕ} 0 1 = cc in omega arith)
 
 pub tells-bad : (place : ℕ) (r : Read Head) → Bad place ≡ head-of r → r ≡ bad place
 unfolding head-of
@@ -118,10 +117,12 @@ terms-in-code c-check = refl
 terms-in-code c-normalise = refl
 terms-in-code c-equal = refl
 
-pub few-terms : (c : Code) → terms-of c ≤ 3
-few-terms c-context = omega arith
-few-terms c-universe = omega arith
-few-terms c-infer = omega arith
-few-terms c-check = omega arith
-few-terms c-normalise = omega arith
-few-terms c-equal = omega arith
+pub few-terms : (c : Option Code) → terms-in c ≤ 3
+unfolding terms-in
+few-terms none = omega arith
+few-terms (some c-context) = omega arith
+few-terms (some c-universe) = omega arith
+few-terms (some c-infer) = omega arith
+few-terms (some c-check) = omega arith
+few-terms (some c-normalise) = omega arith
+few-terms (some c-equal) = omega arith

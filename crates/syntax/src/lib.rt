@@ -13,6 +13,7 @@ pub use cursor::limit_of;
 pub use cursor::past_at;
 pub use limits::Size;
 pub use limits::size_call;
+pub use scan::CallHead;
 pub use scan::Heading;
 pub use scan::Limit;
 pub use scan::Next;
