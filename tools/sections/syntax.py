@@ -183,10 +183,10 @@ whole(PROOFS + 'parts/of_term/Proof.antt')(lambda: proof('term', TERMS))
 whole(PROOFS + 'parts/of_interval/Proof.antt')(lambda: proof('interval', INTERVALS))
 
 
-# ---- calls.rt: the codes of calls; how many terms follow each, as a match on the code, and its proof, an arm a code
+# ---- calls.rt: the codes of calls. Told, Heads, Coded: the number of each, and that it stands there in the reader's table
 
-def called(c):
-    return 'calls::' + c.name.upper()
+HIGHEST = max(c.code for c in CALLS)
+HEADS, CODED = SPECS + 'Heads.antt', PROOFS + 'Coded.antt'
 
 
 @whole('crates/syntax/src/calls.rt')
@@ -198,12 +198,34 @@ def _():
 {codes}
 
 // No code is higher.
-pub const HIGHEST: u8 = {max(c.code for c in CALLS)};
+pub const HIGHEST: u8 = {HIGHEST};
 '''
 
 
-section('crates/syntax/src/scan.rt', 'terms of a call')(lambda: ['%s => %d,' % (called(c), len(c.terms)) for c in CALLS])
-section(SPECS + 'Told.antt', 'numbers of codes')(lambda: ['code-number c-%s = %d' % (c.name, c.code) for c in CALLS])
+def number(n, rest='zero'):
+    """A number as a pattern."""
+    return rest if n == 0 else '(suc %s)' % number(n - 1, rest)
+
+
+def for_codes(path, name, line, *more):
+    section(path, name)(lambda: [line(c) for c in CALLS] + list(more))
+
+
+@section(SPECS + 'Told.antt', 'numbers of codes')
+def _():
+    return ['code-number c-%s = %d' % (c.name, c.code) for c in CALLS] + ['', 'abbrev pub highest-code : ℕ', 'highest-code = %d' % HIGHEST]
+
+
+for_codes(HEADS, 'codes by number', lambda c: 'is-code %s h = record { code = _; here = refl; number = refl }' % number(c.code),
+          'is-code %s h = absurd (let z : ⊥ = omega arith in z)' % number(HIGHEST + 1, 'n'))
+for_codes(HEADS, 'terms by code', lambda c: 'terms-in-code c-%s = refl' % c.name)
+for_codes(HEADS, 'few terms', lambda c: 'few-terms (some c-%s) = omega arith' % c.name)
+for_codes(CODED, 'codes by byte', lambda c: 'code-byte %s c e = let q : c-%s ≡ c = cc in rw (← q)' % (number(c.code), c.name),
+          'code-byte %s c e = absurd (let z : _≡_ {A = ℕ} 0 1 = cc in omega arith)' % number(HIGHEST + 1, 'n'))
+
+# ---- scan.rt: how many terms follow each code, as a match on the code, and its proof, an arm a code
+
+for_codes('crates/syntax/src/scan.rt', 'terms of a call', lambda c: 'calls::%s => %d,' % (c.name.upper(), len(c.terms)))
 
 
 @whole(PROOFS + 'scan/terms_of/Proof.antt')

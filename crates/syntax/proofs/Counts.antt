@@ -2,7 +2,6 @@
 use Prim.Native.Nat.{ℕ, zero, suc, _+_, _*_, _-_, _≤_, _<_}
 use mathlib.Core.Path.{_≡_, refl, ap, _∙_}
 use mathlib.Core.List.{List, [], _∷_, _++_}
-use mathlib.Core.Option.{none}
 use mathlib.Core.Logic.{⊎-elim}
 use mathlib.Core.Bool.{Bool, true, false, _||_}
 use native.Mathlib.Omega.{arith}
@@ -11,10 +10,10 @@ use borrow.Author.Tests.{lt-ltb, le-ltb}
 use types.Run.{OneOf}
 use denote.Enum.Declared.{tagOf}
 use lib.Dec.{ltb}
-use lib.ListN.{length, drop, getD}
+use lib.ListN.{length, drop}
 use Rattle.walk.specs.Refusal as Refusal
 use Rattle.walk.specs.Syntax.{Term}
-use Rattle.walk.specs.Reader.{Read, got, bad, read-on, _>>=_, ok, codes, terms-of, Head, Call, read-terms, read-head, read-call}
+use Rattle.walk.specs.Reader.{Read, got, bad, read-on, _>>=_, ok, terms-of, Head, Call, read-terms, read-head, read-call}
 use Rattle.walk.specs.Limits.{Sized, fits, scope-over, size-over, index-over, size-on, size-term, size-terms, size-call}
 use Rattle.syntax.specs.Told.{term-at, terms-at, call-at, short, next-of, next-in, head-in, head-of, HeadAt, many-terms, sized, size-of}
 use Rattle.syntax.specs.Ends.{ends, goes-term}

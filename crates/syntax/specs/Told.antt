@@ -57,6 +57,9 @@ code-number c-check = 3
 code-number c-normalise = 4
 code-number c-equal = 5
 
+abbrev pub highest-code : ℕ
+highest-code = 5
+
 -- end of numbers of codes
 
 abbrev pub head-in : Code → ℕ → ℕ → CallHead

@@ -1,8 +1,7 @@
 -- `limits::size_call` meets its contract: the head, then what follows it.
 use mathlib.Core.Path.{sym, _∙_}
-use native.Mathlib.Omega.{arith}
 use borrow.Author.Tests.{lt-ltb, le-ltb}
-use Rattle.syntax.specs.Told.{size-of, size-in}
+use Rattle.syntax.specs.Told.{size-in}
 use Rattle.syntax.proofs.Counts.{size-none}
 use borrow.Author.Needs.{needs}
 use Rattle.syntax.proofs.limits.size_call.Statement.{statement}
