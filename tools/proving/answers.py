@@ -3,7 +3,6 @@ from language import TERMS
 
 # Further names to unfold.
 UNFOLD = {
-    'call': 'called-in headed',
     'step': 'turned-by',
     'play-run': 'run-by read-run',
     'link-cell': 'linked cell-end',

@@ -154,7 +154,7 @@ def antt_name(rule):
 
 GROUPS = {
     'Syntax': [[k.node for k in TERMS], [k.node for k in INTERVALS], [k.name for k in TERMS]],
-    'Reader': [['k-' + k.tag for k in TERMS], ['k-' + k.tag for k in INTERVALS]],
+    'Reader': [['k-' + k.tag for k in TERMS], ['k-' + k.tag for k in INTERVALS], ['c-' + c.name for c in CALLS]],
     'Judgment': [[j.name for j in JUDGMENTS]],
     'Tables': [['s-' + k.word for k in ALL], ['l-' + k.word for k in ALL], ['j-' + j.name for j in JUDGMENTS]],
     'Table': [['read-' + j.name for j in JUDGMENTS]],

@@ -1,5 +1,6 @@
-"""crates/syntax: the parts of each kind, and for each a clause of the proofs about reading, depth and size."""
-from .common import INTERVALS, NOTE, TERMS, applied, for_both, is_number, nested, node, parts_of, section, whole
+"""crates/syntax: the codes of calls with their terms; the parts of each kind, and for each a clause of the proofs about reading, depth and
+size."""
+from .common import CALLS, INTERVALS, NOTE, TERMS, applied, for_both, is_number, nested, node, parts_of, section, whole
 from .walk import reading, size_after
 
 SPECS, PROOFS = 'crates/syntax/specs/', 'crates/syntax/proofs/'
@@ -180,3 +181,68 @@ use Rattle.syntax.proofs.parts.of_{sort}.Tie as tie
 
 whole(PROOFS + 'parts/of_term/Proof.antt')(lambda: proof('term', TERMS))
 whole(PROOFS + 'parts/of_interval/Proof.antt')(lambda: proof('interval', INTERVALS))
+
+
+# ---- calls.rt: the codes of calls. Told, Heads, Coded: the number of each, and that it stands there in the reader's table
+
+HIGHEST = max(c.code for c in CALLS)
+HEADS, CODED = SPECS + 'Heads.antt', PROOFS + 'Coded.antt'
+
+
+@whole('crates/syntax/src/calls.rt')
+def _():
+    codes = '\n\n'.join('pub const %s: u8 = %d;' % (c.name.upper(), c.code) for c in CALLS)
+    return f'''// The codes of calls: docs/FORMAT.md.
+// {NOTE}
+
+{codes}
+
+// No code is higher.
+pub const HIGHEST: u8 = {HIGHEST};
+'''
+
+
+def number(n, rest='zero'):
+    """A number as a pattern."""
+    return rest if n == 0 else '(suc %s)' % number(n - 1, rest)
+
+
+def for_codes(path, name, line, *more):
+    section(path, name)(lambda: [line(c) for c in CALLS] + list(more))
+
+
+@section(SPECS + 'Told.antt', 'numbers of codes')
+def _():
+    return ['code-number c-%s = %d' % (c.name, c.code) for c in CALLS] + ['', 'abbrev pub highest-code : ℕ', 'highest-code = %d' % HIGHEST]
+
+
+for_codes(HEADS, 'codes by number', lambda c: 'is-code %s h = record { code = _; here = refl; number = refl }' % number(c.code),
+          'is-code %s h = absurd (let z : ⊥ = omega arith in z)' % number(HIGHEST + 1, 'n'))
+for_codes(HEADS, 'terms by code', lambda c: 'terms-in-code c-%s = refl' % c.name)
+for_codes(HEADS, 'few terms', lambda c: 'few-terms (some c-%s) = omega arith' % c.name)
+for_codes(CODED, 'codes by byte', lambda c: 'code-byte %s c e = let q : c-%s ≡ c = cc in rw (← q)' % (number(c.code), c.name),
+          'code-byte %s c e = absurd (let z : _≡_ {A = ℕ} 0 1 = cc in omega arith)' % number(HIGHEST + 1, 'n'))
+
+# ---- scan.rt: how many terms follow each code, as a match on the code, and its proof, an arm a code
+
+for_codes('crates/syntax/src/scan.rt', 'terms of a call', lambda c: 'calls::%s => %d,' % (c.name.upper(), len(c.terms)))
+
+
+@whole(PROOFS + 'scan/terms_of/Proof.antt')
+def _():
+    out = [f'''-- `scan::terms_of` meets its contract: each arm is an entry of the table of codes, and past the last there is none.
+-- {NOTE}
+use mathlib.Core.Option.{{none}}
+use native.Mathlib.Omega.{{arith}}
+use lib.ListN.{{List·getD-eq-default}}
+use Rattle.walk.specs.Reader.{{codes}}
+use Rattle.syntax.specs.Told.{{terms-in}}
+use Rattle.syntax.proofs.scan.terms_of.Statement.{{statement}}
+use Rattle.syntax.proofs.scan.terms_of.Tie as tie
+''']
+    names = ['returns'] + ['returns-%d' % n for n in range(2, len(CALLS) + 2)]
+    by = ['c .match .keys%d' % (n + 1) for n in range(len(CALLS))]
+    by.append('List·getD-eq-default codes none {n = c .before .args .code} (omega arith)')
+    out += ['%s : tie.Need-%s\nunfolding terms-in\n%s c = rw (%s)\n' % (name, name, name, fact) for name, fact in zip(names, by)]
+    out.append('pub terms-of-spec : {M : Type 1} → statement M\nterms-of-spec = tie.close (tie.spec %s)\n' % ' '.join(names))
+    return '\n'.join(out)

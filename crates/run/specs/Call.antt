@@ -2,16 +2,13 @@
 use Prim.Native.Nat.{ℕ}
 use mathlib.Core.List.{List}
 use lib.Dec.{eqb}
-use lib.ListN.{drop}
 use Rattle.ast.specs.Words.{up}
-use Rattle.producer.specs.Machine.{W, _>>=_, give, stop, when_then_else_, intern}
+use Rattle.producer.specs.Machine.{W, _>>=_, give, when_then_else_, intern}
 use Rattle.producer.specs.Callees.{prepared}
 use Rattle.producer.specs.Calls.{callees}
-use Rattle.walk.specs.Refusal as Refusal
-use Rattle.walk.specs.Reader.{read-head}
-use Rattle.syntax.specs.declared.scan.Heading.{Heading}
-use Rattle.syntax.specs.declared.scan.Heading.the-variants.{Is, Bad}
-use Rattle.syntax.specs.Told.{head-of}
+use Rattle.walk.specs.Reader.{c-context, c-universe, c-infer, c-check, c-normalise}
+use Rattle.syntax.specs.declared.scan.CallHead.{CallHead}
+use Rattle.syntax.specs.Told.{code-number}
 use Rattle.run.specs.Build.{built, scoped}
 
 -- a row with no result, and a result before its row
@@ -33,37 +30,29 @@ with-sides left bytes at d g a b = do
 unfoldable pub with-term : ℕ → List ℕ → (at code d g t : ℕ) → W (ℕ × ℕ)
 with-term left bytes at code d g t = do
   (u, next) ← built 33 bytes at
-  when eqb code 3 then row-alone (callees left .check d g t u)
+  when eqb code (code-number c-check) then row-alone (callees left .check d g t u)
       else
-      (when eqb code 4 then row-first (callees left .normalize d g t u)
+      (when eqb code (code-number c-normalise) then row-first (callees left .normalize d g t u)
       else with-sides left bytes next d g t u)
 
 -- the function of a code, whose terms start at an offset
 unfoldable pub by-code : ℕ → List ℕ → (at code d g : ℕ) → W (ℕ × ℕ)
 by-code left bytes at code d g =
-    when eqb code 0 then row-alone (callees left .ctx d g)
+    when eqb code (code-number c-context) then row-alone (callees left .ctx d g)
     else (do
       (t, next) ← built 33 bytes at
-      when eqb code 1 then row-first (callees left .universe d g t)
+      when eqb code (code-number c-universe) then row-first (callees left .universe d g t)
           else
-          (when eqb code 2 then row-first (callees left .infer d g t)
+          (when eqb code (code-number c-infer) then row-first (callees left .infer d g t)
           else with-term left bytes next code d g t))
 
--- the function is entered, then its arguments are made: the context first, so many types that start at an offset
-unfoldable pub with-context : ℕ → List ℕ → (at code d count : ℕ) → W (ℕ × ℕ)
-with-context left bytes at code d count = do
+-- the function is entered, then its arguments are made: the context first, whose types start at an offset
+unfoldable pub with-context : ℕ → List ℕ → ℕ → CallHead → W (ℕ × ℕ)
+with-context left bytes at head = do
   nil ← prepared (callees left) (intern 32 0 0 0)
-  (g, terms) ← scoped count bytes at nil
-  by-code left bytes terms code d g
+  (g, terms) ← scoped (head .size) bytes at nil
+  by-code left bytes terms (head .code) (head .dims) g
 
--- the call at an offset, with `left` entries allowed: in a run that was read, no head is bad
-unfoldable pub headed : Heading → ℕ → List ℕ → ℕ → W (ℕ × ℕ)
-headed (Is code d count) left bytes at = with-context left bytes (up (up (up at))) code d count
-headed (Bad place) left bytes at = stop Refusal.unread
-
-unfoldable pub called-in : ℕ → List ℕ → ℕ → W (ℕ × ℕ)
-called-in left bytes at = headed (head-of (read-head (drop at bytes) at)) left bytes at
-
--- the whole limit is left
-unfoldable pub called : List ℕ → ℕ → W (ℕ × ℕ)
-called bytes at = λ w. called-in (w .state .limit) bytes at w
+-- the call at an offset, which has this head; the whole limit is left
+unfoldable pub called : List ℕ → ℕ → CallHead → W (ℕ × ℕ)
+called bytes at head = λ w. with-context (w .state .limit) bytes (up (up (up at))) head w

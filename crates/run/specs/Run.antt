@@ -55,7 +55,7 @@ told (not e w) next = record { number = e; row = 4294967295; result = 0; deepest
 
 -- a call of a size: in a run that was read, none is bad or short
 unfoldable pub turned-by : Size → List ℕ → ℕ → Machine → Told
-turned-by (Fits n next) bytes at w = told (called bytes (low-of at) (machine (w .rows) (w .cells) (fresh (w .state)))) next
+turned-by (Fits head n next) bytes at w = told (called bytes (low-of at) head (machine (w .rows) (w .cells) (fresh (w .state)))) next
 turned-by (Refused number next) bytes at w = turn-end (refused-of (w .state) number next) (w .rows) (w .cells)
 turned-by (Bad place) bytes at w = turn-end (refused-of (w .state) Refusal.unread place) (w .rows) (w .cells)
 turned-by Short bytes at w = turn-end (refused-of (w .state) Refusal.unread at) (w .rows) (w .cells)

@@ -8,60 +8,60 @@ use crate::build::build;
 use crate::build::scope;
 use crate::build::wide;
 use ast::kinds::NIL;
-use ast::refusals;
 use ast::words::succ;
 use producer::state::Got;
 use producer::state::State;
 use producer::state::Two;
-use syntax::Heading;
-use syntax::head_at;
+use syntax::CallHead;
+use syntax::calls;
 
-// The row and the result of the call at `at`, or its refusal. In a run that was read, no head is bad.
-pub fn call(state: State, bytes: &[u8], at: u32, rows: &mut [u32], cells: &mut [u32]) -> Two
-    ensures { λ r. ⌜ end-2 r (now (rows .exit)) (now (cells .exit)) ≡ called (now (bytes .entry)) at (machine (now (rows .entry)) (now (cells .entry)) state) ⌝ }
+// The row and the result of the call at `at`, which has this head, or its refusal.
+pub fn call(
+    state: State,
+    bytes: &[u8],
+    at: u32,
+    head: CallHead,
+    rows: &mut [u32],
+    cells: &mut [u32],
+) -> Two
+    ensures { λ r. ⌜ end-2 r (now (rows .exit)) (now (cells .exit)) ≡ called (now (bytes .entry)) at head (machine (now (rows .entry)) (now (cells .entry)) state) ⌝ }
 {
     let left = state.limit;
-    let head = head_at(bytes, at as usize);
-    let Heading::Is(code, dims, size) = head else {
-        return Two::Refused(state, refusals::UNREAD);
-    };
     let second = succ(at);
     let third = succ(second);
     let types = succ(third);
-    enter_context(
-        state,
-        left,
-        bytes,
-        types,
-        rows,
-        cells,
-        wide(code),
-        wide(dims),
-        wide(size),
-    )
+    enter_context(state, left, bytes, types, head, rows, cells)
 }
 
-// The context of a call, `count` types that start at `at`; then the function of its code.
+// The context of a call, whose types start at `at`; then the function of its code.
 pub fn enter_context(
     state: State,
     left: u32,
     bytes: &[u8],
     at: u32,
+    head: CallHead,
     rows: &mut [u32],
     cells: &mut [u32],
-    code: u32,
-    d: u32,
-    count: u32,
 ) -> Two
-    ensures { λ r. ⌜ end-2 r (now (rows .exit)) (now (cells .exit)) ≡ with-context left (now (bytes .entry)) at code d count (machine (now (rows .entry)) (now (cells .entry)) state) ⌝ }
+    ensures { λ r. ⌜ end-2 r (now (rows .exit)) (now (cells .exit)) ≡ with-context left (now (bytes .entry)) at head (machine (now (rows .entry)) (now (cells .entry)) state) ⌝ }
 {
     match state.prepare(left, rows, cells, NIL, 0, 0) {
         Got::Is(s1, nil) => {
-            let q = scope(s1, count, bytes, at, rows, cells, nil);
+            let q = scope(s1, wide(head.size), bytes, at, rows, cells, nil);
             let Two::Pair(s2, g, terms) = q else {
                 return q;
             };
-            enter(s2, left, bytes, terms, rows, cells, code, d, g)
+            enter(
+                s2,
+                left,
+                bytes,
+                terms,
+                rows,
+                cells,
+                head.code,
+                wide(head.dims),
+                g,
+            )
         }
         Got::Refused(s1, e) => Two::Refused(s1, e),
     }
@@ -75,13 +75,13 @@ pub fn enter(
     at: u32,
     rows: &mut [u32],
     cells: &mut [u32],
-    code: u32,
+    code: u8,
     d: u32,
     g: u32,
 ) -> Two
     ensures { λ r. ⌜ end-2 r (now (rows .exit)) (now (cells .exit)) ≡ by-code left (now (bytes .entry)) at code d g (machine (now (rows .entry)) (now (cells .entry)) state) ⌝ }
 {
-    if code == 0 {
+    if code == calls::CONTEXT {
         return match state.ctx(left, rows, cells, d, g) {
             Got::Is(s, row) => Two::Pair(s, row, 0),
             Got::Refused(s, e) => Two::Refused(s, e),
@@ -92,13 +92,13 @@ pub fn enter(
         return q;
     };
     match code {
-        1 => {
+        calls::UNIVERSE => {
             return match s1.universe(left, rows, cells, d, g, t) {
                 Two::Pair(s, level, row) => Two::Pair(s, row, level),
                 Two::Refused(s, e) => Two::Refused(s, e),
             };
         }
-        2 => {
+        calls::INFER => {
             return match s1.infer(left, rows, cells, d, g, t) {
                 Two::Pair(s, ty, row) => Two::Pair(s, row, ty),
                 Two::Refused(s, e) => Two::Refused(s, e),
@@ -117,7 +117,7 @@ pub fn enter_two(
     at: u32,
     rows: &mut [u32],
     cells: &mut [u32],
-    code: u32,
+    code: u8,
     d: u32,
     g: u32,
     t: u32,
@@ -129,13 +129,13 @@ pub fn enter_two(
         return q;
     };
     match code {
-        3 => {
+        calls::CHECK => {
             return match s1.check(left, rows, cells, d, g, t, u) {
                 Got::Is(s, row) => Two::Pair(s, row, 0),
                 Got::Refused(s, e) => Two::Refused(s, e),
             };
         }
-        4 => {
+        calls::NORMALISE => {
             return match s1.normalize(left, rows, cells, d, g, t, u) {
                 Two::Pair(s, normal, row) => Two::Pair(s, row, normal),
                 Two::Refused(s, e) => Two::Refused(s, e),

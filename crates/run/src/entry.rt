@@ -115,10 +115,10 @@ fn step(
 {
     let size = size_call(bytes, at, stack);
     match size {
-        Size::Fits(_, next) => {
+        Size::Fits(head, _, next) => {
             let s = state.begin();
             let from = low(at);
-            let q = call(s, bytes, from, rows, cells);
+            let q = call(s, bytes, from, head, rows, cells);
             answered(q, next)
         }
         Size::Refused(number, next) => refused(state, number, next),

@@ -29,7 +29,7 @@ fn call(label: &[u8], s: &[u8]) {
     let mut stack = [0u8; 131073];
     text(label);
     match syntax::size_call(s, 2, &mut stack) {
-        Size::Fits(nodes, next) => pair(b": nodes ", nodes, b", next ", next),
+        Size::Fits(_, nodes, next) => pair(b": nodes ", nodes, b", next ", next),
         Size::Refused(number, next) => pair(b": refused ", number as usize, b", next ", next),
         Size::Bad(place) => pair(b": bad ", place, b" of ", s.len()),
         Size::Short => text(b": no room\n"),

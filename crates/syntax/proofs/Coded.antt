@@ -21,6 +21,7 @@ use Rattle.syntax.proofs.Runs.{past-call}
 
 -- The byte of a call's code is the code's number.
 pub code-byte : (b : ℕ) (c : Code) → getD codes b none ≡ some c → b ≡ code-number c
+-- written by tools/written.py: codes by byte
 code-byte zero c e = let q : c-context ≡ c = cc in rw (← q)
 code-byte (suc zero) c e = let q : c-universe ≡ c = cc in rw (← q)
 code-byte (suc (suc zero)) c e = let q : c-infer ≡ c = cc in rw (← q)
@@ -28,6 +29,8 @@ code-byte (suc (suc (suc zero))) c e = let q : c-check ≡ c = cc in rw (← q)
 code-byte (suc (suc (suc (suc zero)))) c e = let q : c-normalise ≡ c = cc in rw (← q)
 code-byte (suc (suc (suc (suc (suc zero))))) c e = let q : c-equal ≡ c = cc in rw (← q)
 code-byte (suc (suc (suc (suc (suc (suc n)))))) c e = absurd (let z : _≡_ {A = ℕ} 0 1 = cc in omega arith)
+
+-- end of codes by byte
 
 -- What is left of the codes to store, from call i at an offset on: those of the calls that stand there.
 pub record Left (bytes whole codes : List ℕ) (at i : ℕ) : Type 0 where

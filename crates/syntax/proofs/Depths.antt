@@ -41,19 +41,19 @@ deeper-many (suc (suc (suc zero))) x y z depth new e = ap {B = Option (List Deep
 deeper-many (suc (suc (suc (suc n)))) x y z depth new e = absurd (let z : _≡_ {A = ℕ} 0 1 = cc in omega arith)
 
 -- a part that is no number
-enter-node : (w depth b n : ℕ) (f : List Deep → ℕ → Counted) → (w ≡ 0 → ⊥) → enter (part w) depth b n f ≡ unless (ltb 32 depth || leb 10000 n) 6 (allowed (after (part w) b) (λ new. f (all-at (depth + 1) new) (n + 1)))
+enter-node : (w depth b n at : ℕ) (f : List Deep → ℕ → Counted) → (w ≡ 0 → ⊥) → enter (part w) depth b n at f ≡ unless (ltb 32 depth || leb 10000 n) 6 (allowed (after (part w) b) at (λ new. f (all-at (depth + 1) new) (n + 1)))
 unfolding part enter
-enter-node zero depth b n f h = absurd (h refl)
-enter-node (suc zero) depth b n f h = refl
-enter-node (suc (suc w)) depth b n f h = refl
+enter-node zero depth b n at f h = absurd (h refl)
+enter-node (suc zero) depth b n at f h = refl
+enter-node (suc (suc w)) depth b n at f h = refl
 
 module _ (bytes words : List ℕ) (nodes at d : ℕ) (h : 0 < d) where
-  pub turn-end : length bytes ≤ at → measure (drop at bytes) (piled means words d) nodes at ≡ Bad
+  pub turn-end : length bytes ≤ at → measure (drop at bytes) (piled means words d) nodes at ≡ Bad at
   unfolding measure means
   turn-end l = rw (drop-of-length-le bytes l, piled-top means words d h)
 
   module _ (l : at < length bytes) where
-    turn : measure (drop at bytes) (piled means words d) nodes at ≡ enter (part (getD words (d - 1) 0 % 3)) (getD words (d - 1) 0 / 3) (getD bytes at 0) nodes (λ new n. measure (drop (suc at) bytes) (new ++ piled means words (d - 1)) n (at + 1))
+    turn : measure (drop at bytes) (piled means words d) nodes at ≡ enter (part (getD words (d - 1) 0 % 3)) (getD words (d - 1) 0 / 3) (getD bytes at 0) nodes at (λ new n. measure (drop (suc at) bytes) (new ++ piled means words (d - 1)) n (at + 1))
     unfolding measure means
     turn = rw (drop-cons bytes at 0 l, piled-top means words d h)
 
@@ -68,12 +68,12 @@ module _ (bytes words : List ℕ) (nodes at d : ℕ) (h : 0 < d) where
     module _ (z : getD words (d - 1) 0 % 3 ≡ 0 → ⊥) where
       pub turn-over : (ltb 32 (getD words (d - 1) 0 / 3) || leb 10000 nodes) ≡ true → measure (drop at bytes) (piled means words d) nodes at ≡ Refused Refusal.size
       unfolding unless
-      turn-over t = turn ∙ enter-node _ _ _ _ _ z ∙ rw t
+      turn-over t = turn ∙ enter-node _ _ _ _ _ _ z ∙ rw t
 
       module _ (t : (ltb 32 (getD words (d - 1) 0 / 3) || leb 10000 nodes) ≡ false) (p : Parts) (e : Lists (after (part (getD words (d - 1) 0 % 3)) (getD bytes at 0)) p) where
-        pub turn-bad : 3 < p .n → measure (drop at bytes) (piled means words d) nodes at ≡ Bad
+        pub turn-bad : 3 < p .n → measure (drop at bytes) (piled means words d) nodes at ≡ Bad at
         unfolding unless allowed
-        turn-bad k = turn ∙ enter-node _ _ _ _ _ z ∙ rw (t, ← e .same, over-three (p .n) (part (p .low)) (part (p .mid)) (part (p .top)) k)
+        turn-bad k = turn ∙ enter-node _ _ _ _ _ _ z ∙ rw (t, ← e .same, over-three (p .n) (part (p .low)) (part (p .mid)) (part (p .top)) k)
 
         pub turn-on : (d - 1) + 2 < length words → p .n ≤ 3 → measure (drop at bytes) (piled means words d) nodes at ≡ measure (drop (at + 1) bytes) (piled means (pushed words (d - 1) (deeper p (getD words (d - 1) 0 / 3 + 1))) ((d - 1) + p .n)) (nodes + 1) (at + 1)
         unfolding unless allowed
@@ -81,7 +81,7 @@ module _ (bytes words : List ℕ) (nodes at d : ℕ) (h : 0 < d) where
             let depth = getD words (d - 1) 0 / 3 in
             let u = up-to-three (p .n) (part (p .low)) (part (p .mid)) (part (p .top)) k in
             let many : so-many (p .n) (means (p .low + 3 * (depth + 1))) (means (p .mid + 3 * (depth + 1))) (means (p .top + 3 * (depth + 1))) ≡ some (all-at (depth + 1) (u .0)) = rw (means-deeper (p .low) (depth + 1) (e .low), means-deeper (p .mid) (depth + 1) (e .mid), means-deeper (p .top) (depth + 1) (e .top)) (deeper-many (p .n) _ _ _ (depth + 1) (u .0) (u .1)) in
-            rw (piled-push means words (d - 1) (deeper p (depth + 1)) (all-at (depth + 1) (u .0)) r many) (turn ∙ enter-node _ _ _ _ _ z ∙ rw (t, sym (e .same) ∙ u .1, add-one at))
+            rw (piled-push means words (d - 1) (deeper p (depth + 1)) (all-at (depth + 1) (u .0)) r many) (turn ∙ enter-node _ _ _ _ _ _ z ∙ rw (t, sym (e .same) ∙ u .1, add-one at))
 
 -- the tests of a node's own limits
 pub depth-fits : (depth nodes : ℕ) → (ltb 32 depth || leb 10000 nodes) ≡ false → (depth ≤ 32) × (nodes < 10000)

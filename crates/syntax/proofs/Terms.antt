@@ -2,20 +2,20 @@
 use Prim.Native.Nat.{ℕ, zero, suc, _+_, _-_, _≤_, _<_}
 use mathlib.Core.Path.{_≡_, refl, sym, ap, _∙_}
 use mathlib.Core.List.{List, [], _∷_, _++_}
-use mathlib.Core.Option.{none}
 use mathlib.Core.Bool.{Bool, true, false}
 use native.Mathlib.Omega.{arith}
 use native.Mathlib.Nat.{zero-add, suc-add}
 use native.Mathlib.Numerals.{sub-one}
-use lib.ListN.{length, drop, getD}
+use lib.ListN.{length, drop}
 use mathlib.Core.Logic.{⊎-elim}
 use types.Run.{OneOf}
 use denote.Enum.Declared.{tagOf}
 use Rattle.walk.specs.Syntax.{Term}
-use Rattle.walk.specs.Reader.{Read, got, bad, read-on, _>>=_, ok, codes, terms-of, Head, Call, read-term, read-terms, read-head, read-call}
-use Rattle.syntax.specs.Told.{term-at, terms-at, call-at, next-of, next-in, head-of, terms-in}
-use Rattle.syntax.specs.Heads.{Headed, headed, Tells, tells, tells-bad, terms-in-code, few-terms}
-use Rattle.syntax.specs.declared.scan.Heading.the-variants.{Is, Bad as Heading-bad}
+use Rattle.walk.specs.Reader.{Read, got, bad, read-on, _>>=_, ok, terms-of, Head, Call, read-term, read-terms, read-head, read-call}
+use Rattle.syntax.specs.Told.{term-at, terms-at, call-at, next-of, next-in, head-of, HeadAt, many-terms}
+use Rattle.syntax.specs.Heads.{Headed, headed, Tells, tells, tells-bad, terms-in-code}
+use Rattle.syntax.specs.declared.scan.CallHead.{CallHead}
+use Rattle.syntax.specs.declared.scan.Heading.the-variants.{Bad as Heading-bad}
 use Rattle.syntax.specs.Ends.{ends, goes-term}
 use Rattle.syntax.specs.declared.scan.Next.{Next}
 use Rattle.syntax.specs.declared.scan.Next.the-variants.{Past, Bad, Short}
@@ -117,18 +117,15 @@ unfolding read-call _>>=_ read-on
 call-head bytes from at e l s = rw (e, l, s)
 
 -- A call whose head is read goes as its terms do.
-module _ (bytes : List ℕ) (from code dims size : ℕ) (e : Is code dims size ≡ head-of (read-head (drop from bytes) from)) where
-  abbrev pub T : Tells code dims size (read-head (drop from bytes) from)
-  T = tells code dims size (read-head (drop from bytes) from) e
+module _ (bytes : List ℕ) (from : ℕ) (told : CallHead) (e : HeadAt bytes from told) where
+  abbrev pub T : Tells told (read-head (drop from bytes) from)
+  T = tells told (read-head (drop from bytes) from) e
 
   abbrev H : Headed bytes from (T .head) (T .rest) (T .end)
   H = headed bytes from (T .reads)
 
-  count : terms-in (getD codes code none) ≡ terms-of (T .head .code)
-  count = ap (λ (c : ℕ). terms-in (getD codes c none)) (T .code) ∙ terms-in-code (T .head .code)
-
-  pub few : terms-in (getD codes code none) ≤ 3
-  few = omega (arith, count, few-terms (T .head .code))
+  count : many-terms told ≡ T .head .size + terms-of (T .head .code)
+  count = ap many-terms (T .is) ∙ ap (λ (n : ℕ). T .head .size + n) (terms-in-code (T .head .code))
 
   pub inside : from + 3 ≤ length bytes
   inside = H .inside
@@ -136,10 +133,8 @@ module _ (bytes : List ℕ) (from code dims size : ℕ) (e : Is code dims size �
   pub call-here : call-at bytes from ≡ call-of (length bytes) (T .head) (drop (from + 3) bytes) (from + 3)
   call-here = call-head bytes from (from + 3) (T .reads) (H .left) (H .stop)
 
-  pub terms-here : terms-at (size + terms-in (getD codes code none)) bytes (from + 3) ≡ terms-after (length bytes) (T .head) (drop (from + 3) bytes) (from + 3)
-  terms-here =
-      let all : size + terms-in (getD codes code none) ≡ T .head .size + terms-of (T .head .code) = omega (arith, count, T .size) in
-      ap (λ (k : ℕ). terms-at k bytes (from + 3)) all ∙ read-add (length bytes) (T .head .size) (terms-of (T .head .code)) (drop (from + 3) bytes) (from + 3)
+  pub terms-here : terms-at (many-terms told) bytes (from + 3) ≡ terms-after (length bytes) (T .head) (drop (from + 3) bytes) (from + 3)
+  terms-here = ap (λ (k : ℕ). terms-at k bytes (from + 3)) count ∙ read-add (length bytes) (T .head .size) (terms-of (T .head .code)) (drop (from + 3) bytes) (from + 3)
 
-  pub call-on : next-of (call-at bytes from) ≡ next-of (terms-at (size + terms-in (getD codes code none)) bytes (from + 3))
+  pub call-on : next-of (call-at bytes from) ≡ next-of (terms-at (many-terms told) bytes (from + 3))
   call-on = ap next-of call-here ∙ next-same (length bytes) (T .head) (drop (from + 3) bytes) (from + 3) ∙ sym (ap next-of terms-here)

@@ -14,7 +14,7 @@ use Rattle.walk.specs.Syntax.{Term}
 use Rattle.walk.specs.Reader.{Read, got, bad, read-on, _>>=_, ok, codes, terms-of, Head, Call, read-terms, read-head, read-call, read-calls, read-limit, read-run}
 use Rattle.walk.specs.Limits.{Sized, fits, scope-over, size-over, index-over, size-on, size-term, size-terms, size-call}
 use Rattle.syntax.specs.declared.scan.Heading.the-variants.{Is}
-use Rattle.syntax.specs.Told.{term-at, terms-at, call-at, code-number, head-of}
+use Rattle.syntax.specs.Told.{term-at, terms-at, call-at, head-in, head-of}
 use Rattle.syntax.specs.Ends.{Stops, ends, goes-term, goes-call}
 use Rattle.syntax.specs.Heads.{head-is, Headed, headed}
 
@@ -128,7 +128,7 @@ call-is bytes at {call} {rest} {next} e = at-head (twice (read-head (drop at byt
         at-types (w .first) (rw (← H .left, ← H .stop) H) (twice _ (λ types. read-terms (length bytes) (terms-of (w .first .code)) >>= λ terms. ok (made (w .first) types terms)) (rw (← H .left, ← H .stop) (w .two)))
 
 -- What is read of a call's head.
-pub call-head : (bytes : List ℕ) (at : ℕ) {call : Call} {next : ℕ} → CallAt bytes at call next → head-of (read-head (drop at bytes) at) ≡ Is (code-number (call .code)) (call .dims) (length (call .types))
+pub call-head : (bytes : List ℕ) (at : ℕ) {call : Call} {next : ℕ} → CallAt bytes at call next → head-of (read-head (drop at bytes) at) ≡ Is (head-in (call .code) (call .dims) (length (call .types)))
 unfolding head-of
 call-head bytes at {call} {next} C =
     let two : at + 1 + 1 ≡ at + 2 = omega arith in

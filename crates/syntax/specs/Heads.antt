@@ -2,15 +2,16 @@
 use Prim.Native.Nat.{ℕ, zero, suc, _+_, _≤_, _<_}
 use mathlib.Core.Path.{_≡_, refl, sym, ap, _∙_}
 use mathlib.Core.List.{List}
-use mathlib.Core.Option.{none, some}
+use mathlib.Core.Option.{Option, none, some}
 use native.Mathlib.Omega.{arith}
 use native.Mathlib.Numerals.{add-one}
 use native.Mathlib.Decide.{decLt}
 use lib.ListN.{length, getD, drop, drop-of-length-le, List·getD-eq-default}
 use lib.Seq.{drop-cons}
 use Rattle.walk.specs.Reader.{Read, got, bad, read-on, _>>=_, ok, byte, meant, one-of, Code, c-context, c-universe, c-infer, c-check, c-normalise, c-equal, codes, terms-of, Head, read-head}
-use Rattle.syntax.specs.Told.{code-number, head-of, terms-in}
+use Rattle.syntax.specs.Told.{code-number, highest-code, head-in, head-of, terms-in}
 use Rattle.syntax.specs.Ends.{Stops, ends, goes-head}
+use Rattle.syntax.specs.declared.scan.CallHead.{CallHead}
 use Rattle.syntax.specs.declared.scan.Heading.the-variants.{Is, Bad}
 
 pub record IsCode (b : ℕ) : Type 0 where
@@ -18,7 +19,8 @@ pub record IsCode (b : ℕ) : Type 0 where
   pub here : getD codes b none ≡ some code
   pub number : code-number code ≡ b
 
-pub is-code : (b : ℕ) → b ≤ 5 → IsCode b
+pub is-code : (b : ℕ) → b ≤ highest-code → IsCode b
+-- written by tools/written.py: codes by number
 is-code zero h = record { code = _; here = refl; number = refl }
 is-code (suc zero) h = record { code = _; here = refl; number = refl }
 is-code (suc (suc zero)) h = record { code = _; here = refl; number = refl }
@@ -27,12 +29,14 @@ is-code (suc (suc (suc (suc zero)))) h = record { code = _; here = refl; number 
 is-code (suc (suc (suc (suc (suc zero))))) h = record { code = _; here = refl; number = refl }
 is-code (suc (suc (suc (suc (suc (suc n)))))) h = absurd (let z : ⊥ = omega arith in z)
 
+-- end of codes by number
+
 module _ (bytes : List ℕ) (from : ℕ) where
   pub head-none : length bytes ≤ from → read-head (drop from bytes) from ≡ bad from
   unfolding read-head _>>=_ read-on one-of
   head-none h = rw (drop-of-length-le bytes h)
 
-  pub head-no-code : from < length bytes → 5 < getD bytes from 0 → read-head (drop from bytes) from ≡ bad from
+  pub head-no-code : from < length bytes → highest-code < getD bytes from 0 → read-head (drop from bytes) from ≡ bad from
   unfolding read-head _>>=_ read-on one-of meant
   head-no-code h k = rw (drop-cons bytes from 0 h, List·getD-eq-default codes none k)
 
@@ -78,7 +82,7 @@ headed bytes from {head} {rest} {end} e = at-start (decLt from (length bytes))
           stop = sym same-end ∙ three;
         }
 
-    at-code : from < length bytes → Dec (5 < getD bytes from 0) → Headed bytes from head rest end
+    at-code : from < length bytes → Dec (highest-code < getD bytes from 0) → Headed bytes from head rest end
     at-code h (yes k) = absurd (let q : bad from ≡ got head rest end = sym (head-no-code bytes from h k) ∙ e in let z : _≡_ {A = ℕ} 0 1 = cc in omega arith)
     at-code h (no k) =
         let stops : Stops bytes from 3 rest end = ends goes-head bytes from e in
@@ -86,23 +90,21 @@ headed bytes from {head} {rest} {end} e = at-start (decLt from (length bytes))
         same (omega arith) (is-code (getD bytes from 0) (omega arith))
 
     at-start : Dec (from < length bytes) → Headed bytes from head rest end
-    at-start (yes h) = at-code h (decLt 5 (getD bytes from 0))
+    at-start (yes h) = at-code h (decLt highest-code (getD bytes from 0))
     at-start (no h) = absurd (let q : bad from ≡ got head rest end = sym (head-none bytes from (omega arith)) ∙ e in let z : _≡_ {A = ℕ} 0 1 = cc in omega arith)
 
 -- What `read_head` tells of the head.
-pub record Tells (c d n : ℕ) (r : Read Head) : Type 0 where
+pub record Tells (told : CallHead) (r : Read Head) : Type 0 where
   pub head : Head
   pub rest : List ℕ
   pub end : ℕ
   pub reads : r ≡ got head rest end
-  pub code : c ≡ code-number (head .code)
-  pub dims : d ≡ head .dims
-  pub size : n ≡ head .size
+  pub is : told ≡ head-in (head .code) (head .dims) (head .size)
 
-pub tells : (code dims size : ℕ) (r : Read Head) → Is code dims size ≡ head-of r → Tells code dims size r
+pub tells : (told : CallHead) (r : Read Head) → Is told ≡ head-of r → Tells told r
 unfolding head-of
-tells code dims size (got head rest end) e = record { head = head; rest = rest; end = end; reads = refl; code = cc; dims = cc; size = cc }
-tells code dims size (bad place) e = absurd (let z : _≡_ {A = ℕ} 0 1 = cc in omega arith)
+tells told (got head rest end) e = record { head = head; rest = rest; end = end; reads = refl; is = cc }
+tells told (bad place) e = absurd (let z : _≡_ {A = ℕ} 0 1 = cc in omega arith)
 
 pub tells-bad : (place : ℕ) (r : Read Head) → Bad place ≡ head-of r → r ≡ bad place
 unfolding head-of
@@ -111,6 +113,7 @@ tells-bad place (bad p) e = let q : place ≡ p = cc in rw q
 
 pub terms-in-code : (c : Code) → terms-in (getD codes (code-number c) none) ≡ terms-of c
 unfolding terms-in
+-- written by tools/written.py: terms by code
 terms-in-code c-context = refl
 terms-in-code c-universe = refl
 terms-in-code c-infer = refl
@@ -118,10 +121,17 @@ terms-in-code c-check = refl
 terms-in-code c-normalise = refl
 terms-in-code c-equal = refl
 
-pub few-terms : (c : Code) → terms-of c ≤ 3
-few-terms c-context = omega arith
-few-terms c-universe = omega arith
-few-terms c-infer = omega arith
-few-terms c-check = omega arith
-few-terms c-normalise = omega arith
-few-terms c-equal = omega arith
+-- end of terms by code
+
+pub few-terms : (c : Option Code) → terms-in c ≤ 3
+unfolding terms-in
+few-terms none = omega arith
+-- written by tools/written.py: few terms
+few-terms (some c-context) = omega arith
+few-terms (some c-universe) = omega arith
+few-terms (some c-infer) = omega arith
+few-terms (some c-check) = omega arith
+few-terms (some c-normalise) = omega arith
+few-terms (some c-equal) = omega arith
+
+-- end of few terms

@@ -8,10 +8,12 @@ use Rattle.walk.specs.Refusal as Refusal
 use Rattle.walk.specs.Reader.{Read, got, bad, Kind, k-u, k-v, k-nat, k-zero, k-pi, k-lam, k-app, k-path, k-plam, k-papp, k-sigma, k-pair, k-fst, k-snd, IKind, k-0, k-1, k-dim, k-neg, k-meet, k-join, kinds, ikinds}
 use Rattle.walk.specs.Limits.{Sized, fits, scope-over, size-over, index-over}
 use Rattle.syntax.specs.declared.parts.Parts.{Parts}
+use Rattle.syntax.specs.declared.scan.Next.{Next}
+use Rattle.syntax.specs.declared.scan.Next.the-variants.{Past, Bad as NoNext, Short}
 use Rattle.syntax.specs.declared.limits.Counted.{Counted}
 use Rattle.syntax.specs.declared.limits.Counted.the-variants.{Nodes, Refused, Bad}
 use Rattle.syntax.specs.declared.limits.Size.{Size}
-use Rattle.syntax.specs.declared.limits.Size.the-variants.{Fits, Refused as RefusedCall, Bad as NoCall}
+use Rattle.syntax.specs.declared.limits.Size.the-variants.{Refused as RefusedCall, Bad as NoCall, Short as NoRoom}
 
 -- A part is the number of u, v or dim, or a term, or an interval.
 pub data Part : Type 0 where
@@ -100,18 +102,23 @@ pushed stack top p = set (set (set stack top (p .low)) (top + 1) (p .mid)) (top 
 abbrev pub deeper : Parts → ℕ → Parts
 deeper p depth = record { n = p .n; low = p .low + 3 * depth; mid = p .mid + 3 * depth; top = p .top + 3 * depth }
 
--- What that pass answers where something is read; elsewhere it may answer anything.
+-- What that pass answers. Bytes that are no term have a fault, and a limit may be passed before it.
 unfoldable pub counted : Sized → ℕ → Counted
 counted (fits nodes) next = Nodes nodes next
 counted scope-over next = Refused Refusal.scope
 counted size-over next = Refused Refusal.size
 counted index-over next = Refused Refusal.index
 
+abbrev pub Faults : ℕ → Counted → Type 0
+Faults place (Nodes n at) = ⊥
+Faults place (Refused number) = Unit {0}
+Faults place (Bad at) = at ≡ place
+
 abbrev pub Counts : {A : Type 0} → (A → Sized) → Read A → Counted → Type 0
 Counts size (got a rest next) r = r ≡ counted (size a) next
-Counts size (bad place) r = Unit {0}
+Counts size (bad place) r = Faults place r
 
-unfoldable pub told-size : Counted → ℕ → Size
-told-size (Nodes n at) end = Fits n end
-told-size (Refused k) end = RefusedCall k end
-told-size Bad end = NoCall end
+unfoldable pub refused-size : ℕ → Next → Size
+refused-size number (Past end) = RefusedCall number end
+refused-size number (NoNext place) = NoCall place
+refused-size number Short = NoRoom

@@ -1,16 +1,18 @@
 -- What each public function answers, by the definitions of `walk`.
 use Prim.Native.Nat.{ℕ, _+_, _*_}
+use mathlib.Core.Path.{_≡_}
 use mathlib.Core.List.{List}
 use mathlib.Core.Bool.{Bool, true, false}
 use mathlib.Core.Option.{Option, none, some}
 use lib.Dec.{ltb}
-use lib.ListN.{length, drop}
+use lib.ListN.{length, getD, drop}
 use Rattle.walk.specs.Refusal as Refusal
 use Rattle.walk.specs.Syntax.{Term}
-use Rattle.walk.specs.Reader.{Read, got, bad, Code, c-context, c-universe, c-infer, c-check, c-normalise, c-equal, terms-of, Head, Call, read-term, read-terms, read-call, read-run}
+use Rattle.walk.specs.Reader.{Read, got, bad, Code, c-context, c-universe, c-infer, c-check, c-normalise, c-equal, codes, terms-of, Head, Call, read-term, read-terms, read-head, read-call, read-run}
 use Rattle.walk.specs.Limits.{Sized, fits, scope-over, size-over, index-over, size-call}
 use Rattle.syntax.specs.declared.scan.Next.{Next}
 use Rattle.syntax.specs.declared.scan.Next.the-variants.{Past, Bad, Short}
+use Rattle.syntax.specs.declared.scan.CallHead.{CallHead}
 use Rattle.syntax.specs.declared.scan.Heading.{Heading}
 use Rattle.syntax.specs.declared.scan.Heading.the-variants.{Is, Bad as NoHead}
 use Rattle.syntax.specs.declared.scan.Limit.{Limit}
@@ -47,6 +49,7 @@ next-in false r = next-of r
 -- the head of a call
 
 abbrev pub code-number : Code → ℕ
+-- written by tools/written.py: numbers of codes
 code-number c-context = 0
 code-number c-universe = 1
 code-number c-infer = 2
@@ -54,13 +57,29 @@ code-number c-check = 3
 code-number c-normalise = 4
 code-number c-equal = 5
 
+abbrev pub highest-code : ℕ
+highest-code = 5
+
+-- end of numbers of codes
+
+abbrev pub head-in : Code → ℕ → ℕ → CallHead
+head-in code dims size = record { code = code-number code; dims = dims; size = size }
+
 unfoldable pub head-of : Read Head → Heading
-head-of (got head rest at) = Is (code-number (head .code)) (head .dims) (head .size)
+head-of (got head rest at) = Is (head-in (head .code) (head .dims) (head .size))
 head-of (bad place) = NoHead place
+
+-- This is the head of the call at an offset.
+abbrev pub HeadAt : List ℕ → ℕ → CallHead → Type 0
+HeadAt bytes at head = Is head ≡ head-of (read-head (drop at bytes) at)
 
 unfoldable pub terms-in : Option Code → ℕ
 terms-in none = 0
 terms-in (some code) = terms-of code
+
+-- How many terms follow a head, the types of its context among them.
+abbrev pub many-terms : CallHead → ℕ
+many-terms head = head .size + terms-in (getD codes (head .code) none)
 
 -- the whole run: refusals 2 and 3, or its nesting limit and the number of its calls
 
@@ -84,16 +103,16 @@ unless-long false s = s
 abbrev pub scanned : List ℕ → Scanned
 scanned bytes = unless-long (ltb 65536 (length bytes)) (told (read-run bytes))
 
--- the limits of a call: refusals 5 to 7, or its nodes; with the offset past it
+-- the limits of a call: refusals 5 to 7, or its head and its nodes; with the offset past it
 
-unfoldable pub sized : Sized → ℕ → Size
-sized (fits nodes) next = Fits nodes next
-sized scope-over next = Refused Refusal.scope next
-sized size-over next = Refused Refusal.size next
-sized index-over next = Refused Refusal.index next
+unfoldable pub sized : Sized → Call → ℕ → Size
+sized (fits nodes) call next = Fits (head-in (call .code) (call .dims) (length (call .types))) nodes next
+sized scope-over call next = Refused Refusal.scope next
+sized size-over call next = Refused Refusal.size next
+sized index-over call next = Refused Refusal.index next
 
 unfoldable pub size-of : Read Call → Size
-size-of (got call rest next) = sized (size-call call) next
+size-of (got call rest next) = sized (size-call call) call next
 size-of (bad place) = NoCall place
 
 unfoldable pub size-in : Bool → Read Call → Size

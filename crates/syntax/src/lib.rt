@@ -1,4 +1,5 @@
 // The reader of a run's bytes: whether they are a run, and the limits of its calls.
+pub mod calls;
 pub mod codes;
 pub mod cursor;
 pub mod limits;
@@ -12,6 +13,7 @@ pub use cursor::limit_of;
 pub use cursor::past_at;
 pub use limits::Size;
 pub use limits::size_call;
+pub use scan::CallHead;
 pub use scan::Heading;
 pub use scan::Limit;
 pub use scan::Next;

@@ -5,8 +5,8 @@ ghost use Prim.Native.Nat.{_+_, _*_, _≤_};
 ghost use lib.Dec.{ltb, leb};
 ghost use lib.ListN.{length};
 ghost use Rattle.walk.specs.Limits.{size-term as walk-size, size-terms as walk-sizes, size-call as walk-call};
-ghost use Rattle.syntax.specs.Told.{term-at, terms-at, call-at, short, size-in};
-ghost use Rattle.syntax.specs.Parts.{Counts, told-size};
+ghost use Rattle.syntax.specs.Told.{term-at, terms-at, call-at, HeadAt, short, size-of, size-in};
+ghost use Rattle.syntax.specs.Parts.{Counts, refused-size};
 use super::cursor::head_at;
 use super::cursor::past_at;
 use super::parts::INDEX;
@@ -14,25 +14,26 @@ use super::parts::TERM;
 use super::parts::deeper;
 use super::parts::parts_after;
 use super::parts::push;
+use super::scan::CallHead;
 use super::scan::Heading;
 use super::scan::Next;
-use super::scan::terms_of;
-use super::scan::wide;
+use super::scan::terms_after;
 use ast::refusals;
 
-// The nodes of a call, or its refusal's number, and the offset past it; the place of a fault; or no room for the stack.
+// The head of a call within the limits, its nodes and the offset past it; a refusal's number and that offset; the place of a fault; or
+// no room for the stack.
 pub enum Size {
-    Fits(usize, usize),
+    Fits(CallHead, usize, usize),
     Refused(u32, usize),
     Bad(usize),
     Short,
 }
 
-// The nodes so far and the offset reached; the refusal's number; or bytes that are no term.
+// The nodes so far and the offset reached; the refusal's number; or the place of a fault.
 pub(crate) enum Counted {
     Nodes(usize, usize),
     Refused(u32),
-    Bad,
+    Bad(usize),
 }
 
 // Whether a node at this depth, after so many nodes, passes a limit.
@@ -56,7 +57,7 @@ fn size_term(s: &[u8], from: usize, before: usize, stack: &mut [u8]) -> Counted
     let mut nodes = before;
     while 0 < height {
         if s.len() <= at {
-            return Counted::Bad;
+            return Counted::Bad(at);
         }
         let top = height - 1;
         let word = stack[top];
@@ -76,7 +77,7 @@ fn size_term(s: &[u8], from: usize, before: usize, stack: &mut [u8]) -> Counted
             let p = parts_after(part, b);
             let n = p.n;
             if 3 < n {
-                return Counted::Bad;
+                return Counted::Bad(at);
             }
             height = push(stack, top, deeper(p, depth + 1));
             nodes = nodes + 1;
@@ -106,49 +107,58 @@ fn size_terms(s: &[u8], from: usize, count: usize, stack: &mut [u8]) -> Counted
     Counted::Nodes(nodes, at)
 }
 
-// A call's dimension count and context length, then its terms.
-fn count_call(s: &[u8], from: usize, stack: &mut [u8]) -> Counted
-    requires { ⌜ 2 * length (now s) + 1 ≤ length (now stack) ⌝ }
+// The call at an offset, whose head was read: its dimension count and context length, then its terms.
+fn count_call(s: &[u8], from: usize, head: CallHead, stack: &mut [u8]) -> Counted
+    requires { ⌜ (2 * length (now s) + 1 ≤ length (now stack)) × HeadAt (now s) from head ⌝ }
     ensures { λ r. ⌜ Counts walk-call (call-at (now (s .entry)) from) r ⌝ }
 {
-    let head = head_at(s, from);
-    match head {
-        Heading::Bad(_) => Counted::Bad,
-        Heading::Is(code, dims, size) => {
-            if 33 < dims {
-                return Counted::Refused(refusals::SCOPE);
-            }
-            if 33 < size {
-                return Counted::Refused(refusals::SCOPE);
-            }
-            let count = wide(size) + terms_of(code);
-            size_terms(s, from + 3, count, stack)
+    if 33 < head.dims {
+        return Counted::Refused(refusals::SCOPE);
+    }
+    if 33 < head.size {
+        return Counted::Refused(refusals::SCOPE);
+    }
+    size_terms(s, from + 3, terms_after(head), stack)
+}
+
+// A refused call, told with the offset past it.
+fn refused(number: u32, next: Next) -> Size
+    ensures { λ r. ⌜ r ≡ refused-size number next ⌝ }
+{
+    match next {
+        Next::Past(end) => Size::Refused(number, end),
+        Next::Bad(p) => Size::Bad(p),
+        Next::Short => Size::Short,
+    }
+}
+
+// The call at an offset, whose head was read. One within the limits is passed over once: only where one is refused, its end is still to
+// be found.
+fn size_headed(s: &[u8], from: usize, head: CallHead, stack: &mut [u8]) -> Size
+    requires { ⌜ (2 * length (now s) + 1 ≤ length (now stack)) × HeadAt (now s) from head ⌝ }
+    ensures { λ r. ⌜ r ≡ size-of (call-at (now (s .entry)) from) ⌝ }
+{
+    let c = count_call(s, from, head, stack);
+    match c {
+        Counted::Nodes(nodes, end) => Size::Fits(head, nodes, end),
+        Counted::Bad(p) => Size::Bad(p),
+        Counted::Refused(number) => {
+            let next = past_at(s, from, stack);
+            refused(number, next)
         }
     }
 }
 
-// The same, told with the offset past the call.
-fn tell(c: Counted, end: usize) -> Size
-    ensures { λ r. ⌜ r ≡ told-size c end ⌝ }
-{
-    match c {
-        Counted::Nodes(n, _) => Size::Fits(n, end),
-        Counted::Refused(k) => Size::Refused(k, end),
-        Counted::Bad => Size::Bad(end),
-    }
-}
-
-// The call at an offset: it is read first, so that what follows goes over bytes that are a call.
+// The call at an offset.
 pub fn size_call(s: &[u8], from: usize, stack: &mut [u8]) -> Size
     ensures { λ r. ⌜ r ≡ size-in (short (now (stack .entry)) (now (s .entry))) (call-at (now (s .entry)) from) ⌝ }
 {
-    let next = past_at(s, from, stack);
-    match next {
-        Next::Short => Size::Short,
-        Next::Bad(p) => Size::Bad(p),
-        Next::Past(end) => {
-            let c = count_call(s, from, stack);
-            tell(c, end)
-        }
+    if stack.len() < 2 * s.len() + 1 {
+        return Size::Short;
+    }
+    let heading = head_at(s, from);
+    match heading {
+        Heading::Bad(p) => Size::Bad(p),
+        Heading::Is(head) => size_headed(s, from, head, stack),
     }
 }

@@ -5,7 +5,8 @@ ghost use Prim.Native.Nat.{_≤_};
 ghost use mathlib.Core.Option.{none};
 ghost use lib.ListN.{length, drop, getD};
 ghost use Rattle.walk.specs.Reader.{codes, read-head as walk-head, read-limit as walk-limit, read-calls};
-ghost use Rattle.syntax.specs.Told.{term-at, terms-at, call-at, short, next-in, head-of, terms-in, limit-of, counted, scanned};
+ghost use Rattle.syntax.specs.Told.{term-at, terms-at, call-at, short, next-in, head-of, terms-in, many-terms, limit-of, counted, scanned};
+use super::calls;
 use super::cursor::head_at;
 use super::cursor::limit_of;
 use super::cursor::past_at;
@@ -21,9 +22,16 @@ pub enum Next {
     Short,
 }
 
-// A call's code, dimension count and context length, or the place of the fault.
+// A call's first three bytes: its code, its dimension count and the length of its context.
+pub struct CallHead {
+    pub code: u8,
+    pub dims: u8,
+    pub size: u8,
+}
+
+// A call's head, or the place of the fault.
 pub enum Heading {
-    Is(u8, u8, u8),
+    Is(CallHead),
     Bad(usize),
 }
 
@@ -96,11 +104,23 @@ pub fn terms_of(code: u8) -> usize
     ensures { λ r. ⌜ r ≡ terms-in (getD codes code none) ⌝ }
 {
     match code {
-        1 | 2 => 1,
-        3 | 4 => 2,
-        5 => 3,
+        // written by tools/written.py: terms of a call
+        calls::CONTEXT => 0,
+        calls::UNIVERSE => 1,
+        calls::INFER => 1,
+        calls::CHECK => 2,
+        calls::NORMALISE => 2,
+        calls::EQUAL => 3,
+        // end of terms of a call
         _ => 0,
     }
+}
+
+// How many terms follow a head, the types of its context among them.
+pub(crate) fn terms_after(head: CallHead) -> usize
+    ensures { λ r. ⌜ r ≡ many-terms head ⌝ }
+{
+    wide(head.size) + terms_of(head.code)
 }
 
 // The head of the call at an offset: what a `Reader` reads.
@@ -111,7 +131,7 @@ pub fn read_head(s: &[u8], from: usize) -> Heading
         return Heading::Bad(from);
     }
     let code = s[from];
-    if 5 < code {
+    if calls::HIGHEST < code {
         return Heading::Bad(from);
     }
     let second = from + 1;
@@ -122,7 +142,11 @@ pub fn read_head(s: &[u8], from: usize) -> Heading
     if s.len() <= third {
         return Heading::Bad(third);
     }
-    Heading::Is(code, s[second], s[third])
+    Heading::Is(CallHead {
+        code,
+        dims: s[second],
+        size: s[third],
+    })
 }
 
 // One call from an offset on.
@@ -132,13 +156,10 @@ pub fn skip_call(s: &[u8], from: usize, stack: &mut [u8]) -> Next
     if stack.len() < 2 * s.len() + 1 {
         return Next::Short;
     }
-    let head = head_at(s, from);
-    match head {
+    let heading = head_at(s, from);
+    match heading {
         Heading::Bad(p) => Next::Bad(p),
-        Heading::Is(code, _, size) => {
-            let count = wide(size) + terms_of(code);
-            skip_terms(s, from + 3, count, stack)
-        }
+        Heading::Is(head) => skip_terms(s, from + 3, terms_after(head), stack),
     }
 }
 

@@ -12,12 +12,12 @@ use Rattle.walk.specs.Syntax.{Term, Context, Nil, Cons}
 use Rattle.walk.specs.Reader.{Code, c-context, c-universe, c-infer, c-check, c-normalise, c-equal, terms-of, Call}
 use Rattle.walk.specs.Limits.{fits, size-terms, size-call}
 use Rattle.walk.specs.Run.{scope-of, nth}
-use Rattle.syntax.specs.Told.{code-number}
-use Rattle.syntax.specs.Calls.{TermsAt, no-terms, next-term, CallAt, call-head, CallFits, call-fits, size-terms-first}
+use Rattle.syntax.specs.Told.{code-number, head-in}
+use Rattle.syntax.specs.Calls.{TermsAt, no-terms, next-term, CallAt, CallFits, call-fits, size-terms-first}
 use Rattle.syntax.specs.Fuel.{fit-term}
 use Rattle.link.specs.Asked.{build-term, build-context, call-ctx, call-universe, call-infer, call-check, call-normalize, call-equal}
 use Rattle.run.specs.Build.{made, built, scoped, scoped-body}
-use Rattle.run.specs.Call.{row-alone, row-first, with-sides, with-term, by-code, with-context, headed, called-in}
+use Rattle.run.specs.Call.{row-alone, row-first, with-sides, with-term, by-code, with-context}
 use Rattle.run.specs.Same.Steps.{then-same, then-then, then-give, give-then, made-then, made-in}
 use Rattle.run.specs.Same.Terms.{up-is, built-term}
 
@@ -105,13 +105,13 @@ module _ (bytes : List ℕ) (left d : ℕ) (types : List Term) where
   coded at c-equal (t ∷ u ∷ v ∷ x ∷ ts) l e = absurd (omega (arith, l))
 
 -- a call that was read and that fits
-pub called-is : (bytes : List ℕ) → length bytes ≤ 65536 → (left at : ℕ) {call : Call} {next n : ℕ} → CallAt bytes at call next → size-call call ≡ fits n → called-in left bytes at ≡ by-call (callees left) (call .code) (call .dims) (scope-of Nil (call .types)) (call .terms)
-unfolding called-in headed with-context
+pub called-is : (bytes : List ℕ) → length bytes ≤ 65536 → (left at : ℕ) {call : Call} {next n : ℕ} → CallAt bytes at call next → size-call call ≡ fits n → with-context left bytes (up (up (up at))) (head-in (call .code) (call .dims) (length (call .types))) ≡ by-call (callees left) (call .code) (call .dims) (scope-of Nil (call .types)) (call .terms)
+unfolding with-context
 called-is bytes short left at {call} {next} {n} C z =
     let F : CallFits call n = call-fits call z in
     let u₁ : up at ≡ at + 1 = up-is at (omega (arith, C .far, C .inside)) in
     let u₂ : up (at + 1) ≡ at + 2 = up-is (at + 1) (omega (arith, C .far, C .inside)) ∙ omega arith in
     let u₃ : up (at + 2) ≡ at + 3 = up-is (at + 2) (omega (arith, C .far, C .inside)) ∙ omega arith in
-    rw (call-head bytes at C, u₁, u₂, u₃)
+    rw (u₁, u₂, u₃)
     (then-same (prepared (callees left) (intern 32 0 0 0)) (λ nil. rw (scoped-is bytes (at + 3) (call .types) (all-sent bytes short 0 (C .types) (F .types)) nil) (made-then (C .middle) (scope-cells (call .types) nil) _))
     ∙ coded bytes left (call .dims) (call .types) (C .middle) (call .code) (call .terms) (C .many) (all-sent bytes short (F .middle) (C .terms) (F .terms)))

@@ -74,7 +74,7 @@ module _ (bytes : List ℕ) (short : length bytes ≤ 65536) where
       room true e = absurd (omega (arith, ltb-true 131073 (2 * length bytes + 1) e))
       room false e = refl
 
-      go : (z : Sized) → size-call call ≡ z → turned-by (sized z next) bytes at w ≡ told-of (ask-sized z call w) next
+      go : (z : Sized) → size-call call ≡ z → turned-by (sized z call next) bytes at w ≡ told-of (ask-sized z call w) next
       go scope-over e = refl
       go size-over e = refl
       go index-over e = refl

@@ -1,64 +1,56 @@
--- `limits::size_call` meets its contract: the call is read, then its limits are counted.
+-- `limits::size_call` meets its contract: the head, then what follows it.
 use mathlib.Core.Path.{sym, _∙_}
-use native.Mathlib.Omega.{arith}
-use borrow.Author.Tests.{ltb-false}
-use lib.ListN.{length}
-use Prim.Native.Nat.{_+_, _*_}
-use Rattle.syntax.specs.Told.{call-at}
-use Rattle.syntax.proofs.Counts.{has-room, size-past, size-bad, size-short}
+use borrow.Author.Tests.{lt-ltb, le-ltb}
+use Rattle.syntax.specs.Told.{size-in}
+use Rattle.syntax.proofs.Counts.{size-none}
 use borrow.Author.Needs.{needs}
 use Rattle.syntax.proofs.limits.size_call.Statement.{statement}
 use Rattle.syntax.proofs.limits.size_call.Tie as tie
 
-past-at-requires : tie.Need-past-at-requires
-past-at-requires c κs = search needs
+mul-if1 : tie.Need-mul-if1
+mul-if1 c = search needs
 
-enum-told : tie.Need-enum-told
-enum-told c = search needs
+add-if1 : tie.Need-add-if1
+add-if1 c = search needs
 
-enum-known-next : tie.Need-enum-known-next
-enum-known-next c = search needs
+returns : tie.Need-returns
+unfolding size-in
+returns c = simp (lt-ltb _ _ (c .if1 .taken))
 
-enum-known-next-2 : tie.Need-enum-known-next-2
-enum-known-next-2 c = search needs
+head-at-requires : tie.Need-head-at-requires
+head-at-requires c κs = search needs
 
-count-call-requires : tie.Need-count-call-requires
-count-call-requires c κs = omega (arith, c .before .before .before .before .before .before .past-at .kept .1 .1 .0, ltb-false (length (c .before .before .before .before .before .before .before .before .before .before .args .stack .now)) (2 * length (c .before .before .before .before .before .before .before .before .before .before .args .s .now) + 1) (has-room _ (call-at (c .before .before .before .before .before .before .before .before .before .before .args .s .now) (c .before .before .before .before .before .before .before .before .before .before .args .from)) _ (sym (c .before .before .next2 .given .1) ∙ c .before .before .before .before .before .before .past-at .ensures)))
+enum-known-heading : tie.Need-enum-known-heading
+enum-known-heading c = search needs
 
-tell-requires : tie.Need-tell-requires
-tell-requires c κs = search needs
+enum-known-heading-2 : tie.Need-enum-known-heading-2
+enum-known-heading-2 c = search needs
+
+size-headed-requires : tie.Need-size-headed-requires
+size-headed-requires c κs = (c .before .before .before .before .before .if1 .left, sym (c .before .before .heading2 .given .1) ∙ c .before .before .before .before .head-at .ensures)
+
+returns-2 : tie.Need-returns-2
+unfolding size-in
+returns-2 c = rw (le-ltb _ _ (c .before .before .before .before .if1 .left)) (size-none (c .before .before .before .before .before .before .before .args .s .now) (c .before .before .before .before .before .before .before .args .from) _ (sym (c .before .heading .given .1) ∙ c .before .before .before .head-at .ensures))
 
 same-length : tie.Need-same-length
 same-length c = search needs
 
-returns : tie.Need-returns
-returns c = size-short _ (call-at (c .before .before .before .before .before .before .before .before .args .s .now) (c .before .before .before .before .before .before .before .before .args .from)) (sym (c .enum-told .given .1) ∙ c .before .before .before .before .past-at .ensures)
-
-same-length-2 : tie.Need-same-length-2
-same-length-2 c = search needs
-
-returns-2 : tie.Need-returns-2
-returns-2 c = size-bad _ (call-at (c .before .before .before .before .before .before .before .before .before .args .s .now) (c .before .before .before .before .before .before .before .before .before .args .from)) _ (sym (c .before .next .given .1) ∙ c .before .before .before .before .before .past-at .ensures)
-
-same-length-3 : tie.Need-same-length-3
-same-length-3 c = search needs
-
 returns-3 : tie.Need-returns-3
-returns-3 c = c .tell .ensures ∙ size-past _ (call-at (c .before .before .before .before .before .before .before .before .before .before .before .before .before .before .args .s .now) (c .before .before .before .before .before .before .before .before .before .before .before .before .before .before .args .from)) _ _ (sym (c .before .before .before .before .before .before .next2 .given .1) ∙ c .before .before .before .before .before .before .before .before .before .before .past-at .ensures) (c .before .before .before .count-call .ensures)
+unfolding size-in
+returns-3 c = rw (le-ltb _ _ (c .before .before .before .before .before .before .before .before .if1 .left)) (c .before .before .size-headed .ensures)
 
 pub size-call-spec : {M : Type 1} → statement M
 size-call-spec =
     tie.close
     (tie.spec
-    past-at-requires
-    enum-told
-    enum-known-next
-    enum-known-next-2
-    count-call-requires
-    tell-requires
-    same-length
+    mul-if1
+    add-if1
     returns
-    same-length-2
+    head-at-requires
+    enum-known-heading
+    enum-known-heading-2
+    size-headed-requires
     returns-2
-    same-length-3
+    same-length
     returns-3)
