@@ -9,6 +9,7 @@
 // Stack: the tables of 50,000 rows take 6.0 MB of it, and the compiler gives all cases one frame of that size. The run `deep` of
 // tools/edges.py meets the limit 4,096 too, and takes 3.3 MB for that: it stands here with the limit 1,024, which takes 1.0 MB.
 use libc::STDOUT_FILENO;
+use lines::repeats;
 use text::Piece;
 use text::RunAnswer;
 
@@ -199,7 +200,7 @@ fn report(run: RunAnswer, codes: &[u8], rows: &[u32], cells: &[u32], answers: &[
     shown(run.calls as usize);
     shown(run.rows as usize);
     shown(run.cells as usize);
-    shown(text::repeats(codes, answers, run.calls) as usize);
+    shown(repeats::repeats(codes, answers, run.calls) as usize);
     past(rows, (run.rows as usize) * 24);
     past(cells, (run.cells as usize) * 8);
     past(answers, (run.calls as usize) * 4);

@@ -16,12 +16,11 @@ use Rattle.walk.specs.Limits.{Sized, fits, scope-over, size-over, index-over, s
 use Rattle.walk.specs.Run.{Result, no-result, a-level, a-term, Answer, answered, walk, play-sized, play, play-all}
 use Rattle.walk.specs.Demand.{of-none, of-level, of-answer, judgment-of, Stated, All-stated, no-call, call-on}
 use Rattle.link.specs.Table.{quote-at, Result-word, Answer-words, Answer-at, this-answer, later-answer}
-use Rattle.text.specs.Text.{each}
-use Rattle.text.specs.Repeats.{code}
-use Rattle.text.specs.Listing.{call-line}
-use Rattle.text.specs.Said.{Quote-cell, code-number, Result-in, of-context, of-universe, of-infer, of-check, of-normalise, of-equal, Ended, accepted, Call-in, Calls-in, no-calls, and-call}
-use Rattle.text.specs.Said as S
-use Rattle.text.specs.Agrees.{call-said}
+use Rattle.writer.specs.Text.{each}
+use Rattle.lines.specs.Calls.{code, call-line}
+use Rattle.listed.specs.Said.{Quote-cell, code-number, Result-in, of-context, of-universe, of-infer, of-check, of-normalise, of-equal, Ended, accepted, Call-in, Calls-in, no-calls, and-call}
+use Rattle.listed.specs.Said as S
+use Rattle.listed.specs.Agrees.{call-said}
 use Rattle.listed.specs.Listed.{call-lines}
 use Rattle.syntax.specs.Kinds.{no-some}
 use Rattle.listed.specs.Cells.{lowered, quote-cell}

@@ -9,8 +9,8 @@ use lib.Dec.{ltb, ltb→lt}
 use Rattle.walk.specs.Syntax.{Interval, Quote, Quotes}
 use Rattle.walk.specs.Reader.{Kind, k-u, k-v, k-nat, k-zero, k-pi, k-lam, k-app, k-path, k-plam, k-papp, k-sigma, k-pair, k-fst, k-snd, IKind, k-0, k-1, k-dim, k-neg, k-meet, k-join}
 use Rattle.link.specs.Table.{_>>=_, kind-word, part, interval-by, quote-by, CKind, k-nil, k-cons, context-by, lower, interval-at, quote-at, context-at}
-use Rattle.text.specs.Text.{cell-word}
-use Rattle.text.specs.Said.{Part-in, Interval-cell, cell-0, cell-1, cell-dim, cell-neg, cell-meet, cell-join, Quote-cell, cell-u, cell-v, cell-nat, cell-zero, cell-pi, cell-lam, cell-app, cell-path, cell-plam, cell-papp, cell-sigma, cell-pair, cell-fst, cell-snd, Context-cell, cell-nil, cell-cons}
+use Rattle.quotes.specs.Quotes.{cell-word}
+use Rattle.listed.specs.Said.{Part-in, Interval-cell, cell-0, cell-1, cell-dim, cell-neg, cell-meet, cell-join, Quote-cell, cell-u, cell-v, cell-nat, cell-zero, cell-pi, cell-lam, cell-app, cell-path, cell-plam, cell-papp, cell-sigma, cell-pair, cell-fst, cell-snd, Context-cell, cell-nil, cell-cons}
 use Rattle.syntax.specs.Kinds.{no-some, kind-byte, kind-is, ikind-byte, ikind-is}
 use Rattle.listed.specs.Kinds.{ckind-byte, ckind-is}
 

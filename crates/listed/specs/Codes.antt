@@ -15,7 +15,7 @@ use Rattle.syntax.specs.Codes.{codes-of as bytes-of, codes-in, unless-over, cal
 use Rattle.link.specs.Lists.{written}
 use Rattle.run.specs.declared.entry.Ran.{Ran as Numbers}
 use Rattle.run.specs.Contract.{walked, Runs}
-use Rattle.text.specs.Said.{code-number}
+use Rattle.listed.specs.Said.{code-number}
 use Rattle.text.specs.Listing.{listing}
 use Rattle.listed.specs.Listed.{listed}
 use Rattle.listed.specs.Calls.{codes-of}

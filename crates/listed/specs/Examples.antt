@@ -6,8 +6,8 @@ use mathlib.Core.List.{List, [], _∷_, _++_}
 use Rattle.walk.specs.Run.{run}
 use Rattle.walk.specs.Opened.{opened}
 use Rattle.rules.specs.Names.{bytes, rule-name, judgment-name}
-use Rattle.text.specs.Text.{Text, digits, decimal}
-use Rattle.text.specs.Said.{interval-text, quote-text, context-text, argument-text, judgment-text, refs-text, row-text, result-text, accepted-row, call-text}
+use Rattle.writer.specs.Text.{Text, digits, decimal}
+use Rattle.listed.specs.Said.{interval-text, quote-text, context-text, argument-text, judgment-text, refs-text, row-text, result-text, accepted-row, call-text}
 use Rattle.listed.specs.Listed.{call-lines, row-lines, total-line, listed-read, listed-refused, listed}
 
 abbrev shown : List ℕ → Text

@@ -1,5 +1,5 @@
 -- The listing of a run of the walk, as docs/FORMAT.md says what the listing program prints: over the run's answers and its table, with
--- no words. A row's line and a call's line are `row-text` and `call-text` of `text`'s Said. Assumes nothing.
+-- no words. A row's line and a call's line are `row-text` and `call-text` of Said. Assumes nothing.
 use Prim.Native.Nat.{ℕ, suc}
 use mathlib.Core.Bool.{true, false}
 use mathlib.Core.List.{List, [], _∷_, _++_}
@@ -8,8 +8,8 @@ use lib.ListN.{length}
 use Rattle.walk.specs.State.{Row}
 use Rattle.walk.specs.Run.{Answer, Ran, repeats}
 use Rattle.rules.specs.Names.{bytes}
-use Rattle.text.specs.Text.{Text, decimal}
-use Rattle.text.specs.Said.{row-text, call-text}
+use Rattle.writer.specs.Text.{Text, decimal}
+use Rattle.listed.specs.Said.{row-text, call-text}
 
 -- The lines of answers, from call i on.
 unfoldable pub call-lines : ℕ → List Answer → Text

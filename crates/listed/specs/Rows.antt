@@ -12,10 +12,11 @@ use Rattle.walk.specs.State.{Row}
 use Rattle.walk.specs.Demand.{Row-at, newest, older, Cites, none-cited, _also_, Derivation-order}
 use Rattle.walk.specs.Concludes.{concludes, few-premises}
 use Rattle.link.specs.Table.{interval-at, quote-at, context-at, Stands-for, Row-words}
-use Rattle.text.specs.Text.{Text, each, row-word}
-use Rattle.text.specs.Listing.{row-line}
-use Rattle.text.specs.Said.{Argument-word, word-number, word-term, word-interval, word-context, Arguments-in, no-more, and-then, Refs-in, no-refs, and-ref, Row-in, row-text}
-use Rattle.text.specs.Agrees.{row-said}
+use Rattle.writer.specs.Text.{Text, each}
+use Rattle.quotes.specs.Judgments.{row-word}
+use Rattle.lines.specs.Rows.{row-line}
+use Rattle.listed.specs.Said.{Argument-word, word-number, word-term, word-interval, word-context, Arguments-in, no-more, and-then, Refs-in, no-refs, and-ref, Row-in, row-text}
+use Rattle.listed.specs.Agrees.{row-said}
 use Rattle.listed.specs.Cells.{lowered, interval-cell, quote-cell, context-cell}
 use Rattle.listed.specs.Listed.{row-lines}
 

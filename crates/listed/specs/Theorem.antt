@@ -15,11 +15,13 @@ use Rattle.order.specs.Theorem.{demand-3}
 use Rattle.run.specs.declared.entry.Ran.{Ran}
 use Rattle.run.specs.Contract.{walked, numbers-of, Runs}
 use Rattle.text.specs.declared.RunAnswer.{RunAnswer}
-use Rattle.text.specs.Text.{Text, each}
-use Rattle.text.specs.Repeats.{code, repeats}
-use Rattle.text.specs.Listing.{call-line, row-line, totals, read-listing, refused-listing, listing}
-use Rattle.text.specs.Said.{Calls-in}
-use Rattle.text.specs.Repeated.{repeats-said}
+use Rattle.writer.specs.Text.{Text, each}
+use Rattle.lines.specs.Calls.{code, call-line}
+use Rattle.lines.specs.Repeats.{repeats}
+use Rattle.lines.specs.Rows.{row-line}
+use Rattle.text.specs.Listing.{totals, read-listing, refused-listing, listing}
+use Rattle.listed.specs.Said.{Calls-in}
+use Rattle.listed.specs.Repeated.{repeats-said}
 use Rattle.listed.specs.Listed.{call-lines, row-lines, total-line, listed-read, listed-refused, listed}
 use Rattle.listed.specs.Cells.{some-is}
 use Rattle.listed.specs.Rows.{rows-said}

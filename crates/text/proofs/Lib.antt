@@ -1,3 +1,2 @@
--- What the proofs of several functions use, and what a window shows.
-pub mod Laws
-pub mod Shown
+-- What the proofs of several functions use.
+mod Laws

@@ -6,9 +6,13 @@ use lib.ListN.{replicate}
 use Rattle.walk.specs.Rule.{kind-of}
 use Rattle.rules.specs.Names.{bytes, rule-name, judgment-name, node-name}
 use Rattle.rules.specs.Kinds.{sorts-of, sort-of, parts-of, part-of}
-use Rattle.text.specs.Text.{each, digits, decimal, argument, node-as, lower, quote-within, quote, some-refs, refs, judgment-as}
-use Rattle.text.specs.Repeats.{with-call, accepted, same, occurs, repeats-after, repeats}
-use Rattle.text.specs.Listing.{call-row, result, call-result, call-head, call-line, row-head, row-line, totals, read-listing, refused-listing, listing}
+use Rattle.writer.specs.Text.{each, digits, decimal}
+use Rattle.quotes.specs.Quotes.{argument, node-as, lower, quote-within, quote}
+use Rattle.quotes.specs.Judgments.{judgment-as}
+use Rattle.lines.specs.Rows.{some-refs, refs, row-head, row-line}
+use Rattle.lines.specs.Repeats.{with-call, accepted, same, occurs, repeats-after, repeats}
+use Rattle.lines.specs.Calls.{call-row, result, call-result, call-head, call-line}
+use Rattle.text.specs.Listing.{totals, read-listing, refused-listing, listing}
 use Rattle.text.specs.declared.RunAnswer.{RunAnswer}
 
 -- The run 100 0 3 0 0 4 3, which checks zero at nat.

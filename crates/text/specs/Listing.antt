@@ -1,46 +1,16 @@
--- The listing of a run: lines over the words of its answers, rows and cells, and the codes of its calls. Assumes nothing.
+-- The listing of a run: its calls' lines, its rows' lines and the totals. Assumes nothing.
 use Prim.Native.Nat.{ℕ}
 use mathlib.Core.Bool.{true, false}
 use mathlib.Core.List.{List, _++_}
 use lib.Dec.{eqb}
-use Rattle.rules.specs.Names.{bytes, rule-name}
-use Rattle.text.specs.Text.{Text, each, decimal, row-word, quote, refs, rule, judgment}
-use Rattle.text.specs.Repeats.{answer-word, code, repeats}
+use Rattle.rules.specs.Names.{bytes}
+use Rattle.writer.specs.Text.{Text, each, decimal}
+use Rattle.lines.specs.Rows.{refs, rule, judgment, row-line}
+use Rattle.lines.specs.Calls.{call-line}
+use Rattle.lines.specs.Repeats.{repeats}
 use Rattle.text.specs.declared.RunAnswer.{RunAnswer}
 use Rattle.text.specs.declared.Piece.{Piece}
 use Rattle.text.specs.declared.Piece.the-variants.{Listing, CallLine, RowLine, Totals, RowNumber, RuleName, Refs, Judgment}
-
--- calls
-
--- The row of an accepted call, else -.
-unfoldable pub call-row : List ℕ → ℕ → Text
-call-row A i = elim (eqb (answer-word A i 0) 0) [ true ↦ decimal (answer-word A i 1) | false ↦ bytes "-" ]
-
--- The result of an accepted call: a level for code 1, a quote for codes 2 and 4; else -.
-unfoldable pub result : ℕ → List ℕ → ℕ → Text
-result code C x =
-    elim (eqb code 1) [ true ↦ decimal x | false ↦ elim (eqb code 2) [ true ↦ quote C x | false ↦ elim (eqb code 4) [ true ↦ quote C x | false ↦ bytes "-" ] ] ]
-
-unfoldable pub call-result : List ℕ → List ℕ → List ℕ → ℕ → Text
-call-result codes A C i = elim (eqb (answer-word A i 0) 0) [ true ↦ result (code codes i) C (answer-word A i 2) | false ↦ bytes "-" ]
-
--- The call, its refusal's number and its row; then its result and its deepest.
-unfoldable pub call-head : List ℕ → ℕ → Text
-call-head A i = decimal i ++ bytes " " ++ decimal (answer-word A i 0) ++ bytes " " ++ call-row A i
-
-unfoldable pub call-line : List ℕ → List ℕ → List ℕ → ℕ → Text
-call-line codes A C i = call-head A i ++ bytes " " ++ call-result codes A C i ++ bytes " " ++ decimal (answer-word A i 3) ++ bytes "\n"
-
--- rows
-
--- The row's number, its rule by name, the rows that it cites, its judgment.
-unfoldable pub row-head : ℕ → ℕ → Text
-row-head n i = decimal i ++ bytes " " ++ rule-name n ++ bytes " "
-
-unfoldable pub row-line : List ℕ → List ℕ → ℕ → Text
-row-line R C i = row-head (row-word R i 0) i ++ refs R i ++ bytes " " ++ judgment R C i ++ bytes "\n"
-
--- the whole
 
 -- The numbers of rows, of cells and of repeats.
 unfoldable pub totals : RunAnswer → List ℕ → List ℕ → Text
