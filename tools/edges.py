@@ -17,6 +17,9 @@ import os
 import subprocess
 import sys
 
+sys.dont_write_bytecode = True
+from language import CALLS, INTERVALS, TERMS  # noqa: E402
+
 ROOT = os.path.dirname(os.path.dirname(os.path.abspath(__file__)))
 ORACLE = os.path.join(ROOT, 'target/oracle/release/oracle')
 CASES = os.path.join(ROOT, 'crates/edges/stdin')
@@ -28,48 +31,22 @@ SHOWN = 8
 
 # --- terms, as bytes
 
-NAT, ZERO = [3], [4]
-I0, I1 = [16], [17]
+
+def node(kind):
+    """A node of this kind: a function of its parts, or the byte alone where it has none."""
+    def bytes_(*parts):
+        assert len(parts) == len(kind.parts), kind.name
+        return sum(([p] if sort.sort == 'number' else p for p, sort in zip(parts, kind.parts)), [kind.byte])
+    return bytes_ if kind.parts else [kind.byte]
 
 
-def u(n):
-    return [1, n]
+NODES = {kind.name: node(kind) for kind in TERMS + INTERVALS}
+NAT, ZERO, I0, I1 = (NODES[name] for name in ('nat', 'zero', 'i0', 'i1'))
+u, v, pi, lam, app, path, plam, papp, dim, neg = (NODES[name] for name in 'u v pi lam app path plam papp dim neg'.split())
 
-
-def v(n):
-    return [2, n]
-
-
-def pi(a, b):
-    return [5] + a + b
-
-
-def lam(a, b):
-    return [6] + a + b
-
-
-def app(f, a):
-    return [7] + f + a
-
-
-def path(a, b, c):
-    return [8] + a + b + c
-
-
-def plam(a, b):
-    return [9] + a + b
-
-
-def papp(p, r):
-    return [10] + p + r
-
-
-def dim(n):
-    return [18, n]
-
-
-def neg(r):
-    return [19] + r
+# Bytes that are no code, no kind of a term, no kind of an interval: next to those that are.
+NO_CODE = CALLS[-1].code + 1
+NO_TERM, NO_INTERVALS = TERMS[-1].byte + 1, (INTERVALS[0].byte - 1, INTERVALS[-1].byte + 1)
 
 
 def times(n, f, x):
@@ -196,22 +173,22 @@ def whole_runs():
     case('ends-in-dim', [100, 0, 2, 0, 0, 10, 4, 18])
     case('ends-in-second-call', run(100, CHECK) + [1, 0])
     say('Refusal 3: a byte that is no code or kind for its spot (its offset): a code, a kind of a type, of a term, of an interval.')
-    case('code-6', [100, 0, 6, 0, 0])
+    case('code-%d' % NO_CODE, [100, 0, NO_CODE, 0, 0])
     case('code-255', [100, 0, 255])
-    case('second-code', run(100, CHECK) + [6])
-    for kind in (0, 11, 16, 255):
+    case('second-code', run(100, CHECK) + [NO_CODE])
+    for kind in (0, NO_TERM, I0[0], 255):
         case('term-kind-%d' % kind, [100, 0, 2, 0, 0, kind])
     case('context-kind', [100, 0, 0, 0, 2, 3, 17])
     case('second-term', [100, 0, 3, 0, 0, 4, 0])
-    for kind in (15, 22, 4):
+    for kind in NO_INTERVALS + (ZERO[0],):
         case('interval-kind-%d' % kind, [100, 0, 2, 0, 0, 10, 4, kind])
     case('inner-interval-kind', [100, 0, 2, 0, 0, 10, 4, 21, 16, 3])
     say('The leftmost place wins; the limit goes first. 3 goes before 4, and 1 before all.')
     case('limit-before-code', [0, 0, 9])
-    case('kind-before-end', [100, 0, 3, 0, 0, 11])
+    case('kind-before-end', [100, 0, 3, 0, 0, NO_TERM])
     case('end-before-nothing', [100, 0, 3, 0, 0, 5, 3])
-    case('three-before-four', [100, 0, 6], (16368, 16384, 0))
-    case('one-before-three', [0, 0, 6], (16368, 7, 0))
+    case('three-before-four', [100, 0, NO_CODE], (16368, 16384, 0))
+    case('one-before-three', [0, 0, NO_CODE], (16368, 7, 0))
     case('four-before-five', run(100, call(0, 34, [], [])), (16368, 16384, 3))
 
 

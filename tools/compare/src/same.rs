@@ -5,8 +5,9 @@
 //! oracle's by kind and parts, and what names a cell is compared by quote.
 use crate::program::{all, Left, FILLS};
 use crate::quote;
+use oracle::language::rule_number;
 use oracle::sexp::Sexp;
-use oracle::{rules, Node, Ran, Value};
+use oracle::{Node, Ran, Value};
 use std::collections::HashMap;
 use std::ops::Range;
 
@@ -196,7 +197,7 @@ fn answer(left: &Left, ran: &Ran, nodes: &[Node], i: usize) -> Result<(), Differ
 fn row(left: &Left, ran: &Ran, nodes: &[Node], i: usize) -> Result<(), Difference> {
     let wanted = &ran.rows[i];
     let words = &left.rows[i * ROW..(i + 1) * ROW];
-    let number = rules::number(&wanted.rule) as u32;
+    let number = rule_number(&wanted.rule) as u32;
     want(words[0] == number, || {
         format!("row {i}'s rule: {}, wanted {number} ({})", words[0], wanted.rule)
     })?;

@@ -3,40 +3,9 @@
 use crate::program::Left;
 use crate::quote;
 use crate::same::{nodes_of, NO_ROW};
+use oracle::language::{Sort, JUDGMENTS, RULES};
 use oracle::{batch, Ran};
 use std::fmt::Write;
-
-/// The judgments by number: the name, and which of the arguments are numbers.
-// written by tools/written.py: judgments
-const JUDGMENTS: &[(&str, &[bool])] = &[
-    ("ctx", &[true, false]),
-    ("dshiftctx", &[false, true, false]),
-    ("lookup", &[false, true, false]),
-    ("lt", &[true, true]),
-    ("le", &[true, true]),
-    ("max", &[true, true, true]),
-    ("interval", &[true, false]),
-    ("ishift", &[false, true, false]),
-    ("isubst", &[false, true, false, false]),
-    ("shift", &[false, true, false]),
-    ("subst", &[false, true, false, false]),
-    ("dshift", &[false, true, false]),
-    ("dsubst", &[false, true, false, false]),
-    ("has", &[true, false, false, false]),
-    ("eq", &[true, false, false, false, false]),
-];
-// end of judgments
-
-/// The judgment that each rule concludes.
-// written by tools/written.py: concluded
-const CONCLUDED: &[usize] = &[
-    0, 0, 1, 1, 2, 2, 3, 3, 4, 4, 5, 5, 5, 6, 6, 6, 6, 6, 6, 7, 7, 7, 7, 7, 7, 7, 8, 8, 8, 8, 8, 8,
-    8, 8, 9, 9, 9, 9, 9, 9, 9, 9, 9, 9, 9, 10, 10, 10, 10, 10, 10, 10, 10, 10, 10, 10, 10, 11, 11,
-    11, 11, 11, 11, 11, 11, 11, 11, 12, 12, 12, 12, 12, 12, 12, 12, 12, 12, 13, 13, 13, 13, 13, 13,
-    13, 13, 13, 13, 13, 14, 14, 14, 14, 14, 14, 14, 13, 13, 13, 13, 14, 14, 9, 9, 9, 9, 10, 10, 10,
-    10, 11, 11, 11, 11, 12, 12, 12, 12,
-];
-// end of concluded
 
 pub fn oracle_text(ran: &Ran) -> String {
     let mut out = String::new();
@@ -72,13 +41,13 @@ pub fn program_text(left: &Left, ran: &Ran) -> String {
 }
 
 fn judgment(words: &[u32], nodes: &[oracle::Node]) -> String {
-    let Some((name, numbers)) = CONCLUDED.get(words[0] as usize).map(|kind| JUDGMENTS[*kind])
-    else {
+    let Some((_, concluded)) = RULES.get(words[0] as usize) else {
         return format!("{:?}", &words[12..18]);
     };
+    let (name, sorts) = JUDGMENTS[*concluded];
     let mut out = format!("({name}");
-    for (word, number) in words[13..18].iter().zip(numbers) {
-        if *number {
+    for (word, sort) in words[13..18].iter().zip(sorts) {
+        if *sort == Sort::Number {
             write!(out, " {word}").unwrap();
         } else {
             write!(out, " {}", quote::text(nodes, *word)).unwrap();

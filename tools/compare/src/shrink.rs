@@ -1,6 +1,7 @@
 //! A smaller run that still shows a difference: calls, types, parts of terms and
 //! numbers are dropped for as long as it does.
 use generator::Case;
+use oracle::language::{kind_of, Kind, Sort, CALLS};
 
 /// How often a run may be tried.
 const TRIES: usize = 20_000;
@@ -87,9 +88,6 @@ struct Node {
     interval: bool,
 }
 
-/// How many terms a call of each code has.
-const TERMS: [usize; 6] = [0, 1, 1, 2, 2, 3];
-
 /// Where each call ends, of a run that can be read.
 pub fn ends(bytes: &[u8]) -> Option<Vec<usize>> {
     Some(read(bytes)?.iter().map(|call| call.end).collect())
@@ -101,7 +99,7 @@ fn read(bytes: &[u8]) -> Option<Vec<Span>> {
     while at < bytes.len() {
         let start = at;
         let context = usize::from(*bytes.get(at + 2)?);
-        let terms = TERMS.get(usize::from(bytes[at]))?;
+        let terms = CALLS.get(usize::from(bytes[at]))?;
         at += 3;
         let mut nodes = Vec::new();
         for _ in 0..context + terms {
@@ -113,27 +111,28 @@ fn read(bytes: &[u8]) -> Option<Vec<Span>> {
     Some(out)
 }
 
-/// What a kind of node has: the bytes of its own, and whether each part is an
-/// interval.
-fn form(kind: u8, interval: bool) -> Option<(usize, &'static [bool])> {
-    Some(match (kind, interval) {
-        (1 | 2, false) | (18, true) => (2, &[]),
-        (3 | 4, false) | (16 | 17, true) => (1, &[]),
-        (5 | 6 | 7 | 9, false) => (1, &[false, false]),
-        (8, false) => (1, &[false, false, false]),
-        (10, false) => (1, &[false, true]),
-        (19, true) => (1, &[true]),
-        (20 | 21, true) => (1, &[true, true]),
-        _ => return None,
-    })
+/// The kind that a byte names where a term, or an interval, is to be.
+fn kind(byte: u8, interval: bool) -> Option<&'static Kind> {
+    let sort = if interval { Sort::Interval } else { Sort::Term };
+    kind_of(byte.into()).filter(|kind| kind.sort == sort)
+}
+
+/// The bytes of a node's own, and whether each of its parts is an interval.
+fn own(kind: &Kind) -> usize {
+    1 + usize::from(kind.is_numbered())
+}
+
+fn inner(kind: &Kind) -> impl DoubleEndedIterator<Item = bool> + use<'_> {
+    let nodes = kind.parts.iter().filter(|sort| **sort != Sort::Number);
+    nodes.map(|sort| *sort == Sort::Interval)
 }
 
 fn end(bytes: &[u8], at: usize, interval: bool) -> Option<usize> {
     let (mut at, mut open) = (at, vec![interval]);
     while let Some(interval) = open.pop() {
-        let (own, parts) = form(*bytes.get(at)?, interval)?;
-        open.extend(parts.iter().rev());
-        at += own;
+        let kind = kind(*bytes.get(at)?, interval)?;
+        open.extend(inner(kind).rev());
+        at += own(kind);
     }
     (at <= bytes.len()).then_some(at)
 }
@@ -178,21 +177,21 @@ fn parts(bytes: &[u8], node: Node, out: &mut Vec<Vec<u8>>) {
     while let Some(node) = open.pop() {
         let Node { start, interval } = node;
         let to = end(bytes, start, interval).unwrap();
-        let (own, sorts) = form(bytes[start], interval).unwrap();
+        let kind = kind(bytes[start], interval).unwrap();
         let leaves: &[u8] = if interval { &[16, 17] } else { &[3, 4] };
         for leaf in leaves {
             out.push(replaced(bytes, start, to, &[*leaf]));
         }
-        let mut at = start + own;
-        for sort in sorts {
-            let past = end(bytes, at, *sort).unwrap();
-            if *sort == interval {
+        let mut at = start + own(kind);
+        for part in inner(kind) {
+            let past = end(bytes, at, part).unwrap();
+            if part == interval {
                 out.push(replaced(bytes, start, to, &bytes[at..past]));
             }
-            open.push(Node { start: at, interval: *sort });
+            open.push(Node { start: at, interval: part });
             at = past;
         }
-        if own == 2 {
+        if kind.is_numbered() {
             let number = bytes[start + 1];
             out.push(with(bytes, start + 1, 0));
             out.push(with(bytes, start + 1, number.saturating_sub(1)));

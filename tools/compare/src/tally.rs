@@ -1,8 +1,9 @@
 //! What a comparison met, counted.
-use oracle::{rules, Ran};
+use oracle::language::{rule_number, LAST_REFUSAL, RULES};
+use oracle::Ran;
 use std::fmt::{self, Write};
 
-pub const NUMBERS: usize = 21;
+pub const NUMBERS: usize = LAST_REFUSAL + 1;
 
 /// The rows that the Rust's table always has.
 const ROWS: u32 = 50_000;
@@ -29,7 +30,7 @@ pub struct Tally {
     pub deepest: u32,
     /// By number: 0 accepted, 1 to 4 runs, the rest calls.
     pub numbers: [u64; NUMBERS],
-    pub rules: [u64; rules::NAMES.len()],
+    pub rules: [u64; RULES.len()],
 }
 
 impl Default for Tally {
@@ -48,7 +49,7 @@ impl Default for Tally {
             uncut: 0,
             deepest: 0,
             numbers: [0; NUMBERS],
-            rules: [0; rules::NAMES.len()],
+            rules: [0; RULES.len()],
         }
     }
 }
@@ -64,7 +65,7 @@ impl Tally {
             self.deepest = self.deepest.max(answer.deepest);
         }
         for row in &ran.rows {
-            self.rules[rules::number(&row.rule)] += 1;
+            self.rules[rule_number(&row.rule)] += 1;
         }
         if ran.number != 0 {
             self.numbers[usize::from(ran.number)] += 1;
@@ -106,7 +107,7 @@ impl Tally {
         add(&mut self.rules, &other.rules);
     }
 
-    /// Refusals 1 to 20 and rules 0 to 94 that were not met.
+    /// The refusals and the rules that were not met.
     pub fn missing(&self) -> (Vec<usize>, Vec<usize>) {
         let none = |counts: &[u64], from: usize| {
             (from..counts.len()).filter(|i| counts[*i] == 0).collect()

@@ -1,7 +1,7 @@
 //! Copies with something wrong in them: in the terms of a call, or in bytes.
 use crate::calls::Call;
 use crate::random::Random;
-use crate::term::{app, lam, papp, path, pi, plam, Interval, Term};
+use crate::term::{app, lam, papp, path, pi, plam, Interval, Term, LETTERS};
 use Interval::{Dim, I0};
 use Term::*;
 
@@ -20,7 +20,7 @@ fn leaf(random: &mut Random) -> Term {
 
 fn inside(random: &mut Random, t: &mut Term) {
     let down = random.chance(3, 4);
-    let mut parts = t.parts();
+    let mut parts = t.terms();
     if down && !parts.is_empty() {
         let i = random.below(parts.len());
         inside(random, parts.swap_remove(i));
@@ -31,8 +31,8 @@ fn inside(random: &mut Random, t: &mut Term) {
         (0, Lam(a, b)) => Pi(a, b),
         (0, Pi(a, b)) => Lam(a, b),
         (0, App(a, b)) => App(b, a),
-        (0, PLam(a, b)) => Lam(a, b),
-        (0, PApp(p, _)) => PApp(p, Dim(random.below(4))),
+        (0, Plam(a, b)) => Lam(a, b),
+        (0, Papp(p, _)) => Papp(p, Dim(random.below(4))),
         (0, V(n)) => V(n + 1),
         (0, U(n)) => U(n + 1),
         (1, old) => app(old, Zero),
@@ -64,6 +64,9 @@ pub fn call(random: &mut Random, call: &mut Call) {
     }
 }
 
+/// Past the highest byte with a meaning.
+const END: usize = LETTERS[LETTERS.len() - 1] as usize + 1;
+
 /// A few bytes changed, put in, taken out or cut off.
 pub fn bytes(random: &mut Random, bytes: &mut Vec<u8>) {
     for _ in 0..random.between(1, 3) {
@@ -71,7 +74,7 @@ pub fn bytes(random: &mut Random, bytes: &mut Vec<u8>) {
             return;
         }
         let at = random.below(bytes.len());
-        let new = if random.chance(1, 2) { random.below(22) } else { random.below(256) } as u8;
+        let new = if random.chance(1, 2) { random.below(END) } else { random.below(256) } as u8;
         match random.below(6) {
             0 => bytes[at] = new,
             1 => bytes.insert(at, new),

@@ -4,6 +4,7 @@ mod bench;
 mod calls;
 mod damage;
 mod edges;
+mod kinds;
 mod large;
 mod meeting;
 mod random;

@@ -1,7 +1,7 @@
 //! Whole runs, one for each place under a seed.
 use crate::calls::{Call, Case, FULL, LISTING};
 use crate::random::Random;
-use crate::term::{app, lam, neg, papp, path, pi, plam, Interval, Term};
+use crate::term::{app, lam, neg, papp, path, pi, plam, Interval, Term, LETTERS};
 use crate::typed::{Maker, Scope};
 use crate::{damage, edges, shapes};
 use Interval::{I0, I1};
@@ -247,7 +247,7 @@ pub fn sweep(seed: u64, place: u64) -> impl Iterator<Item = Case> {
     let random = &mut Random::new(seed, place);
     let mut calls = typed(random);
     for mut t in calls[0].terms.clone().into_iter().chain(calls[0].context.clone()) {
-        let parts: Vec<Term> = t.parts().into_iter().rev().map(|part| part.clone()).collect();
+        let parts: Vec<Term> = t.terms().into_iter().rev().map(|part| part.clone()).collect();
         for part in parts {
             calls.push(Call::new(2, calls[0].dimensions, &[], &[part]));
         }
@@ -267,12 +267,11 @@ pub fn sweep(seed: u64, place: u64) -> impl Iterator<Item = Case> {
 /// Every run of so many bytes after the header (limit 100) that is made of the
 /// bytes with a meaning: codes, kinds, small numbers.
 pub fn short(length: u32) -> impl Iterator<Item = Case> {
-    let letters: Vec<u8> = (0..=10).chain(16..=21).collect();
-    let base = letters.len();
+    let base = LETTERS.len();
     (0..base.pow(length)).map(move |mut n| {
         let mut bytes = vec![100, 0];
         for _ in 0..length {
-            bytes.push(letters[n % base]);
+            bytes.push(LETTERS[n % base]);
             n /= base;
         }
         Case { slices: LISTING, bytes }

@@ -126,8 +126,8 @@ impl Maker<'_> {
                 Lam(_, body) => self.at(s, &body.subst(x), fuel),
                 _ => None,
             },
-            PApp(p, r) => match &**p {
-                PLam(_, body) => self.at(s, &body.dsubst(r), fuel),
+            Papp(p, r) => match &**p {
+                Plam(_, body) => self.at(s, &body.dsubst(r), fuel),
                 _ => None,
             },
             _ => None,
@@ -141,7 +141,7 @@ impl Maker<'_> {
             return Some(plam(a.clone(), b.dshift()));
         }
         match (b, c) {
-            (PApp(p, I0), PApp(q, I1)) if p == q => Some(plam(a.clone(), papp(p.dshift(), Dim(0)))),
+            (Papp(p, I0), Papp(q, I1)) if p == q => Some(plam(a.clone(), papp(p.dshift(), Dim(0)))),
             _ => None,
         }
     }
@@ -231,7 +231,7 @@ impl Maker<'_> {
                 self.reannotate(&s.with(a), b, wild);
                 **a = self.annotation(s, a, wild);
             }
-            PLam(a, b) => {
+            Plam(a, b) => {
                 self.reannotate(&s.deeper(), b, wild);
                 **a = self.annotation(&s.deeper(), a, wild);
             }
@@ -248,7 +248,7 @@ impl Maker<'_> {
                 self.reannotate(s, a, wild);
                 self.reannotate(s, b, wild);
             }
-            PApp(p, _) => self.reannotate(s, p, wild),
+            Papp(p, _) => self.reannotate(s, p, wild),
             U(_) | V(_) | Nat | Zero => {}
         }
     }

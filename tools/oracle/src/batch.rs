@@ -6,8 +6,8 @@
 //! - for each call `call number row result deepest`, where a result that is a
 //!   quote has blanks of its own;
 //! - for each row `row rule refs judgment`, the rule by its number.
+use crate::language::rule_number;
 use crate::listing;
-use crate::rules;
 use crate::run::{Ran, Slices};
 use std::fmt::{self, Write};
 use std::io::{self, Read};
@@ -49,7 +49,7 @@ pub fn write(out: &mut String, ran: Option<&Ran>) -> fmt::Result {
         listing::call(out, answer)?;
     }
     for row in &ran.rows {
-        let number = rules::number(&row.rule);
+        let number = rule_number(&row.rule);
         writeln!(out, "row {number} {} {}", listing::cited(&row.refs), row.judgment)?;
     }
     out.write_str("end\n")

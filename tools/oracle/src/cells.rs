@@ -3,6 +3,7 @@
 //! context's rest before its last type. A cell is known by its kind and the
 //! numbers of its parts, so that a tree is counted in one pass over its nodes.
 use crate::cubical::ast::{Interval, Term};
+use crate::language::INFERENCE;
 use crate::refusal::Refusal;
 use crate::sexp::Result;
 use std::collections::HashMap;
@@ -11,9 +12,10 @@ use std::hash::{BuildHasherDefault, Hasher};
 /// Kind and three parts. The kinds of terms and intervals are a run's codes.
 pub type Node = [u32; 4];
 
+// written by tools/written.py: other cells
 const NIL: u32 = 32;
 const CONS: u32 = 33;
-const INFERENCE: u32 = 40;
+// end of other cells
 
 #[derive(Default)]
 pub struct Cells {
@@ -48,12 +50,11 @@ impl Cells {
         self.work_left = u64::MAX;
     }
 
-    fn one(&mut self, kind: u32, a: u32, b: u32, c: u32) -> Result<u32> {
+    fn one(&mut self, node: Node) -> Result<u32> {
         if self.work_left == 0 {
             return Err(Refusal::SLOW);
         }
         self.work_left -= 1;
-        let node = [kind, a, b, c];
         if let Some(&cell) = self.known.get(&node) {
             return Ok(cell);
         }
@@ -66,39 +67,47 @@ impl Cells {
     }
 
     pub fn interval(&mut self, r: &Interval) -> Result<u32> {
-        let (kind, a, b) = match r {
-            Interval::Zero => (16, 0, 0),
-            Interval::One => (17, 0, 0),
-            Interval::Var(n) => (18, *n as u32, 0),
-            Interval::Neg(a) => (19, self.interval(a)?, 0),
-            Interval::Meet(a, b) => (20, self.interval(a)?, self.interval(b)?),
-            Interval::Join(a, b) => (21, self.interval(a)?, self.interval(b)?),
+        let node = match r {
+            // written by tools/written.py: cells of intervals
+            Interval::Zero => [16, 0, 0, 0],
+            Interval::One => [17, 0, 0, 0],
+            Interval::Var(n) => [18, *n as u32, 0, 0],
+            Interval::Neg(a) => [19, self.interval(a)?, 0, 0],
+            Interval::Meet(a, b) => [20, self.interval(a)?, self.interval(b)?, 0],
+            Interval::Join(a, b) => [21, self.interval(a)?, self.interval(b)?, 0],
+            // end of cells of intervals
         };
-        self.one(kind, a, b, 0)
+        self.one(node)
     }
 
     pub fn term(&mut self, t: &Term) -> Result<u32> {
-        let (kind, a, b, c) = match t {
-            Term::Universe(l) => (1, *l as u32, 0, 0),
-            Term::Var(n) => (2, *n as u32, 0, 0),
-            Term::Nat => (3, 0, 0, 0),
-            Term::Zero => (4, 0, 0, 0),
-            Term::Pi(a, b) => (5, self.term(a)?, self.term(b)?, 0),
-            Term::Lam(a, b) => (6, self.term(a)?, self.term(b)?, 0),
-            Term::App(a, b) => (7, self.term(a)?, self.term(b)?, 0),
-            Term::Path(a, b, c) => (8, self.term(a)?, self.term(b)?, self.term(c)?),
-            Term::PathLam(a, b) => (9, self.term(a)?, self.term(b)?, 0),
-            Term::PathApp(p, r) => (10, self.term(p)?, self.interval(r)?, 0),
+        let node = match t {
+            // written by tools/written.py: cells of terms
+            Term::Universe(n) => [1, *n as u32, 0, 0],
+            Term::Var(n) => [2, *n as u32, 0, 0],
+            Term::Nat => [3, 0, 0, 0],
+            Term::Zero => [4, 0, 0, 0],
+            Term::Pi(a, b) => [5, self.term(a)?, self.term(b)?, 0],
+            Term::Lam(a, b) => [6, self.term(a)?, self.term(b)?, 0],
+            Term::App(a, b) => [7, self.term(a)?, self.term(b)?, 0],
+            Term::Path(a, b, c) => [8, self.term(a)?, self.term(b)?, self.term(c)?],
+            Term::PathLam(a, b) => [9, self.term(a)?, self.term(b)?, 0],
+            Term::PathApp(a, b) => [10, self.term(a)?, self.interval(b)?, 0],
+            Term::Sigma(a, b) => [11, self.term(a)?, self.term(b)?, 0],
+            Term::Pair(a, b, c) => [12, self.term(a)?, self.term(b)?, self.term(c)?],
+            Term::Fst(a) => [13, self.term(a)?, 0, 0],
+            Term::Snd(a) => [14, self.term(a)?, 0, 0],
+            // end of cells of terms
         };
-        self.one(kind, a, b, c)
+        self.one(node)
     }
 
     /// The types of a context stand outermost first.
     pub fn context(&mut self, g: &[Term]) -> Result<u32> {
-        let mut rest = self.one(NIL, 0, 0, 0)?;
+        let mut rest = self.one([NIL, 0, 0, 0])?;
         for a in g {
             let last = self.term(a)?;
-            rest = self.one(CONS, last, rest, 0)?;
+            rest = self.one([CONS, last, rest, 0])?;
         }
         Ok(rest)
     }
@@ -108,7 +117,7 @@ impl Cells {
     pub fn inference(&mut self, d: usize, g: &[Term], t: &Term) -> Result<u32> {
         let g = self.context(g)?;
         let t = self.term(t)?;
-        self.one(INFERENCE, d as u32, g, t)
+        self.one([INFERENCE, d as u32, g, t])
     }
 }
 

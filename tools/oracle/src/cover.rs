@@ -1,5 +1,5 @@
 //! Which refusals and rules a set of runs meets, and how often.
-use crate::rules;
+use crate::language::{rule_number, LAST_REFUSAL, RULES};
 use crate::run::Ran;
 use std::fmt::{self, Write};
 
@@ -10,19 +10,12 @@ pub struct Cover {
     rows: u64,
     /// By number: 0 accepted, 1 to 4 runs, the rest calls.
     numbers: [u64; 256],
-    rules: [u64; rules::NAMES.len()],
+    rules: [u64; RULES.len()],
 }
 
 impl Default for Cover {
     fn default() -> Self {
-        Self {
-            runs: 0,
-            slow: 0,
-            calls: 0,
-            rows: 0,
-            numbers: [0; 256],
-            rules: [0; rules::NAMES.len()],
-        }
+        Self { runs: 0, slow: 0, calls: 0, rows: 0, numbers: [0; 256], rules: [0; RULES.len()] }
     }
 }
 
@@ -42,7 +35,7 @@ impl Cover {
             self.numbers[usize::from(answer.number)] += 1;
         }
         for row in &ran.rows {
-            self.rules[rules::number(&row.rule)] += 1;
+            self.rules[rule_number(&row.rule)] += 1;
         }
     }
 
@@ -53,14 +46,19 @@ impl Cover {
             self.runs, self.slow, self.calls, self.rows
         )?;
         for (number, count) in self.numbers.iter().enumerate() {
-            if *count > 0 || number <= 20 {
+            if *count > 0 || number <= LAST_REFUSAL {
                 writeln!(out, "number {number} {count}")?;
             }
         }
         for (number, count) in self.rules.iter().enumerate() {
-            writeln!(out, "rule {number} {} {count}", rules::NAMES[number])?;
+            writeln!(out, "rule {number} {} {count}", RULES[number].0)?;
         }
         let missing = |counts: &[u64]| counts.iter().filter(|count| **count == 0).count();
-        writeln!(out, "missing {} {}", missing(&self.numbers[..=20]), missing(&self.rules))
+        writeln!(
+            out,
+            "missing {} {}",
+            missing(&self.numbers[..=LAST_REFUSAL]),
+            missing(&self.rules)
+        )
     }
 }

@@ -1,5 +1,6 @@
 //! A run's bytes: the nesting limit and the calls, or refusal 3 with its place.
 use crate::cubical::ast::{Interval, Term};
+use crate::language::CALLS;
 
 pub struct Call {
     pub code: u8,
@@ -15,9 +16,6 @@ struct Reader<'a> {
     bytes: &'a [u8],
     at: usize,
 }
-
-/// How many terms a call of each code has.
-const TERMS: [usize; 6] = [0, 1, 1, 2, 2, 3];
 
 pub fn read(bytes: &[u8]) -> Result<(u32, Vec<Call>), Bad> {
     let mut reader = Reader { bytes, at: 0 };
@@ -47,7 +45,7 @@ impl Reader<'_> {
     fn call(&mut self) -> Result<Call, Bad> {
         let at = self.at;
         let code = self.byte()?;
-        let count = *TERMS.get(usize::from(code)).ok_or(Bad(at))?;
+        let count = *CALLS.get(usize::from(code)).ok_or(Bad(at))?;
         let dimensions = self.number()?;
         let length = self.number()?;
         Ok(Call { code, dimensions, context: self.terms(length)?, terms: self.terms(count)? })
@@ -64,6 +62,7 @@ impl Reader<'_> {
     fn term(&mut self) -> Result<Term, Bad> {
         let at = self.at;
         Ok(match self.byte()? {
+            // written by tools/written.py: terms by their bytes
             1 => Term::Universe(self.number()?),
             2 => Term::Var(self.number()?),
             3 => Term::Nat,
@@ -74,6 +73,11 @@ impl Reader<'_> {
             8 => Term::Path(self.boxed()?, self.boxed()?, self.boxed()?),
             9 => Term::PathLam(self.boxed()?, self.boxed()?),
             10 => Term::PathApp(self.boxed()?, self.interval()?),
+            11 => Term::Sigma(self.boxed()?, self.boxed()?),
+            12 => Term::Pair(self.boxed()?, self.boxed()?, self.boxed()?),
+            13 => Term::Fst(self.boxed()?),
+            14 => Term::Snd(self.boxed()?),
+            // end of terms by their bytes
             _ => return Err(Bad(at)),
         })
     }
@@ -85,12 +89,14 @@ impl Reader<'_> {
     fn interval(&mut self) -> Result<Interval, Bad> {
         let at = self.at;
         Ok(match self.byte()? {
+            // written by tools/written.py: intervals by their bytes
             16 => Interval::Zero,
             17 => Interval::One,
             18 => Interval::Var(self.number()?),
             19 => Interval::Neg(self.side()?),
             20 => Interval::Meet(self.side()?, self.side()?),
             21 => Interval::Join(self.side()?, self.side()?),
+            // end of intervals by their bytes
             _ => return Err(Bad(at)),
         })
     }
