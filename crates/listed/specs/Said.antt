@@ -79,7 +79,7 @@ pub record Part-in (C : List ℕ) (i w j : ℕ) : Type 0 where
   pub word : cell-word C i w ≡ j
   pub lower : j < i
 
--- Cell i has the quote: its kind, and its parts in lower cells. The annotations of lam and plam may be anything.
+-- Cell i has the quote: its kind, and its parts in lower cells. The annotations of lam, plam and pair may be anything.
 pub data Interval-cell (C : List ℕ) : ℕ → Interval → Type 0 where
   -- written by tools/written.py: cell of an interval
   cell-0 : {i : ℕ} → cell-word C i 0 ≡ 16 → Interval-cell C i I0

@@ -81,7 +81,7 @@ _shows_ s l = record { name = s; parts = l }
 abbrev pub no-node : Node
 no-node = "" shows []
 
--- The nodes by their kind: terms from 1, intervals from 16, contexts from 32. The annotations of lam and plam, in word 1, are
+-- The nodes by their kind: terms from 1, intervals from 16, contexts from 32. The annotations of lam, plam and pair, in word 1, are
 -- not shown.
 abbrev pub nodes : List Node
 nodes =

@@ -15,10 +15,10 @@ use Rattle.walk.specs.Run.{Ran, Answer, Result, no-result, a-term, run, 
 use Rattle.walk.specs.Opened.{opened}
 
 -- an answer: number, row, result, deepest
-abbrev Shown : Type 0
+abbrev pub Shown : Type 0
 Shown = ℕ × ℕ × Result × ℕ
 
-abbrev shown : List Answer → List Shown
+abbrev pub shown : List Answer → List Shown
 shown [] = []
 shown (a ∷ l) = (a .number, a .row, a .result, a .deepest) ∷ shown l
 
@@ -33,15 +33,15 @@ pub record Seen : Type 0 where
   pub answers : List Shown
   pub table : Option (List Row)
 
-abbrev oldest-first : List Row → List Row → List Row
+abbrev pub oldest-first : List Row → List Row → List Row
 oldest-first [] done = done
 oldest-first (r ∷ rs) done = oldest-first rs (r ∷ done)
 
-abbrev table-of : Option (List Row) → Ran → Option (List Row)
+abbrev pub table-of : Option (List Row) → Ran → Option (List Row)
 table-of none r = none
 table-of (some given) r = some (oldest-first (r .last .rows) [])
 
-abbrev see : Option (List Row) → Ran → Seen
+abbrev pub see : Option (List Row) → Ran → Seen
 see given r = record { number = r .number; place = r .place; calls = length (r .calls); rows = length (r .last .rows); cells = length (r .last .cells); repeats = repeats r; answers = shown (r .answers); table = table-of given r }
 
 -- a line: the words of the three slices, the bytes, and what is seen
@@ -53,33 +53,33 @@ pub record Line : Type 0 where
   pub bytes : List ℕ
   pub seen : Seen
 
-abbrev in-slices : String → ℕ → ℕ → ℕ → List ℕ → Seen → Line
+abbrev pub in-slices : String → ℕ → ℕ → ℕ → List ℕ → Seen → Line
 in-slices name rows cells answers bytes seen = record { name = name; row-words = rows; cell-words = cells; answer-words = answers; bytes = bytes; seen = seen }
 
 -- in the listing's slices
-abbrev listed : String → List ℕ → Seen → Line
+abbrev pub listed : String → List ℕ → Seen → Line
 listed name bytes seen = in-slices name 16368 16384 16384 bytes seen
 
 -- a run that is read: rows, cells, repeats, answers
-abbrev gives : ℕ → ℕ → ℕ → List Shown → Seen
+abbrev pub gives : ℕ → ℕ → ℕ → List Shown → Seen
 gives rows cells repeats answers = record { number = 0; place = 0; calls = length answers; rows = rows; cells = cells; repeats = repeats; answers = answers; table = none }
 
 -- the same, with the rows themselves
-abbrev tells : List Row → ℕ → List Shown → Seen
+abbrev pub tells : List Row → ℕ → List Shown → Seen
 tells rows cells answers = record { number = 0; place = 0; calls = length answers; rows = length rows; cells = cells; repeats = 0; answers = answers; table = some rows }
 
 -- a run that is refused: number and place
 abbrev refuses : ℕ → ℕ → Seen
 refuses number place = record { number = number; place = place; calls = 0; rows = 0; cells = 0; repeats = 0; answers = []; table = none }
 
-abbrev row : ℕ → List ℕ → Judgment → Row
+abbrev pub row : ℕ → List ℕ → Judgment → Row
 row rule refs j = record { rule = rule; refs = refs; judgment = j }
 
 -- the row of a refused call
-abbrev no-row : ℕ
+abbrev pub no-row : ℕ
 no-row = 4294967295
 
-abbrev limit-100 : List ℕ
+abbrev pub limit-100 : List ℕ
 limit-100 = 100 ∷ 0 ∷ []
 
 -- check zero at nat
@@ -187,11 +187,11 @@ table =
     []
 
 -- the table's lines, as they are played
-abbrev played : List Line → List Seen
+abbrev pub played : List Line → List Seen
 played [] = []
 played (l ∷ ls) = see (l .seen .table) (run (l .row-words) (l .cell-words) (l .answer-words) (l .bytes)) ∷ played ls
 
-abbrev stated : List Line → List Seen
+abbrev pub stated : List Line → List Seen
 stated [] = []
 stated (l ∷ ls) = l .seen ∷ stated ls
 

@@ -16,3 +16,4 @@ pub mod Calls
 pub mod Concludes
 pub mod Opened
 pub mod Examples
+pub mod Pairs
