@@ -16,7 +16,7 @@ UNFOLD = {
     'find': 'find-compound',
     'path': 'path-ends',
     'plam': 'plam-ends',
-    'pair': 'pair-at',
+    'pair': 'pair-typed',
     'along': 'at-ends',
     'equal': 'equal-normal',
     'deeper': 'deeper-of',

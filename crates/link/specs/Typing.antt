@@ -170,9 +170,9 @@ module _ {o : Before} {rd : M (Unit {0})} (c : Callees) (d : D.Callees) (L : Lin
       row-then (L .max i j) λ _ _ _.
       rw (← larger-is i j) (founding _ _ cite-3 (making-universe (larger i j)))
 
-  pair-at-matches : {xs : List Thing} {g y ta tb a b : ℕ} {g′ : Context} {y′ ta′ tb′ a′ b′ : Term} (n : ℕ) → Cell g (context g′) xs → Cell y (term y′) xs → Cell ta (term ta′) xs → Cell tb (term tb′) xs → Cell a (term a′) xs → Cell b (term b′) xs → Matches o xs (P.pair-at c n g y ta tb a b) (B.find-pair d n g′ y′ ta′ tb′ a′ b′) Finds
-  unfolding P.pair-at B.find-pair
-  pair-at-matches n g y ta tb a b =
+  pair-typed-matches : {xs : List Thing} {g y ta tb a b : ℕ} {g′ : Context} {y′ ta′ tb′ a′ b′ : Term} (n : ℕ) → Cell g (context g′) xs → Cell y (term y′) xs → Cell ta (term ta′) xs → Cell tb (term tb′) xs → Cell a (term a′) xs → Cell b (term b′) xs → Matches o xs (P.pair-typed c n g y ta tb a b) (B.find-pair d n g′ y′ ta′ tb′ a′ b′) Finds
+  unfolding P.pair-typed B.find-pair
+  pair-typed-matches n g y ta tb a b =
       number-then _ _ (L .universe n g ta) λ _ _ _ e₁.
       number-then _ _ (universe-of-cons n (cell-lift e₁ ta) (cell-lift e₁ g) (cell-lift e₁ tb)) λ j _ _ e₂.
       let f₂ = extends-trans e₁ e₂ in
@@ -251,7 +251,7 @@ module _ {o : Before} {rd : M (Unit {0})} (c : Callees) (d : D.Callees) (L : Lin
       number-then _ _ (L .universe n (cell-lift (extends-trans f₃ e₄) g) out) λ _ _ _ e₅.
       founding _ _ cite-4 (having (the-term (cell-lift e₅ out)) (cell-lift e₅ out)))
       (λ _ _ _ _ _ _ a b. find-binder-matches n _ g a b)
-      (λ _ _ _ _ _ _ _ _ y a b. at-sigma _ _ y (λ _ _ _ _ _ ta tb. pair-at-matches n g y ta tb a b) (stopping _))
+      (λ _ _ _ _ _ _ _ _ y a b. at-sigma _ _ y (λ _ _ _ _ _ ta tb. pair-typed-matches n g y ta tb a b) (stopping _))
       (λ _ _ _ _ p.
       three-then _ _ (subject-matches n g p) λ _ _ _ _ _ _ e₁ ta _.
       number-then _ _ (L .universe n (cell-lift e₁ g) ta) λ _ _ _ e₂.

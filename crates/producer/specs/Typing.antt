@@ -177,8 +177,8 @@ subject c d g p = do
     (ty′, row′) ← opened c d g p ty row
     at-sigma ty′ (λ a b. give (a, b, row′)) (stop Refusal.no-sigma))
 
-unfoldable pub pair-at : Callees → (d g ty ta tb a b : ℕ) → W Finding
-pair-at c d g ty ta tb a b = do
+unfoldable pub pair-typed : Callees → (d g ty ta tb a b : ℕ) → W Finding
+pair-typed c d g ty ta tb a b = do
   (_, x₀) ← c .universe d g ta
   (j, x₁) ← for-call c (make-cons ta g) λ h. c .universe d h tb
   x₂ ← c .check d g a ta
@@ -188,7 +188,7 @@ pair-at c d g ty ta tb a b = do
   found (give ty) (refs-6 x₀ x₁ x₂ x₃ x₄ x₅) R.type·pair
 
 unfoldable pub find-pair : Callees → (d g ty a b : ℕ) → W Finding
-find-pair c d g ty a b = at-sigma ty (λ ta tb. pair-at c d g ty ta tb a b) (stop Refusal.annotation)
+find-pair c d g ty a b = at-sigma ty (λ ta tb. pair-typed c d g ty ta tb a b) (stop Refusal.annotation)
 
 unfoldable pub find-fst : Callees → (d g p : ℕ) → W Finding
 find-fst c d g p = do
