@@ -28,19 +28,20 @@ for_both(PARTS, 'parts of an %s kind',
 for_both(KINDS, 'bytes of %s kinds', lambda k, sort: '%skind-byte k-%s = %d' % (i(sort), k.tag, k.byte))
 
 
-def table(kinds):
-    """The reader's table has each kind at its byte."""
-    def entries(ks, at):
-        if not ks:
+def table(bytes_):
+    """The reader's table has each kind, or code, at its byte."""
+    def entries(bs, at):
+        if not bs:
             return 'end'
-        gap, rest = ks[0].byte - at, 'entry refl (%s)' % entries(ks[1:], ks[0].byte + 1)
+        gap, rest = bs[0] - at, 'entry refl (%s)' % entries(bs[1:], bs[0] + 1)
         rest = rest.replace('(end)', 'end')
         return rest if gap == 0 else 'blank (%s)' % rest if gap == 1 else 'blanks %d %d (%s)' % (gap, at, rest)
-    return entries(kinds, 0)
+    return 'table = ' + entries(bytes_, 0)
 
 
-section(KINDS, 'table of interval kinds')(lambda: ['table = ' + table(INTERVALS)])
-section(KINDS, 'table of term kinds')(lambda: ['table = ' + table(TERMS)])
+section(KINDS, 'table of interval kinds')(lambda: [table([k.byte for k in INTERVALS])])
+section(KINDS, 'table of term kinds')(lambda: [table([k.byte for k in TERMS])])
+section(KINDS, 'table of codes')(lambda: [table([c.code for c in CALLS])])
 
 # ---- Nodes: the reader of what follows a kind's byte
 
@@ -183,10 +184,10 @@ whole(PROOFS + 'parts/of_term/Proof.antt')(lambda: proof('term', TERMS))
 whole(PROOFS + 'parts/of_interval/Proof.antt')(lambda: proof('interval', INTERVALS))
 
 
-# ---- calls.rt: the codes of calls. Told, Heads, Coded: the number of each, and that it stands there in the reader's table
+# ---- calls.rt: the codes of calls. Told, Heads: the number of each, and that it stands there in the reader's table
 
 HIGHEST = max(c.code for c in CALLS)
-HEADS, CODED = SPECS + 'Heads.antt', PROOFS + 'Coded.antt'
+HEADS = SPECS + 'Heads.antt'
 
 
 @whole('crates/syntax/src/calls.rt')
@@ -220,8 +221,6 @@ for_codes(HEADS, 'codes by number', lambda c: 'is-code %s h = record { code = _;
           'is-code %s h = absurd (let z : ⊥ = omega arith in z)' % number(HIGHEST + 1, 'n'))
 for_codes(HEADS, 'terms by code', lambda c: 'terms-in-code c-%s = refl' % c.name)
 for_codes(HEADS, 'few terms', lambda c: 'few-terms (some c-%s) = omega arith' % c.name)
-for_codes(CODED, 'codes by byte', lambda c: 'code-byte %s c e = let q : c-%s ≡ c = cc in rw (← q)' % (number(c.code), c.name),
-          'code-byte %s c e = absurd (let z : _≡_ {A = ℕ} 0 1 = cc in omega arith)' % number(HIGHEST + 1, 'n'))
 
 # ---- scan.rt: how many terms follow each code, as a match on the code, and its proof, an arm a code
 

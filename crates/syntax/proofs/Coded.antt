@@ -1,8 +1,7 @@
 -- The loop that stores the codes of a run's calls.
-use Prim.Native.Nat.{ℕ, zero, suc, _+_, _≤_, _<_}
+use Prim.Native.Nat.{ℕ, _+_, _≤_, _<_}
 use mathlib.Core.Path.{_≡_, refl, sym, ap, _∙_}
 use mathlib.Core.List.{List, [], _∷_}
-use mathlib.Core.Option.{none, some}
 use mathlib.Core.Bool.{Bool, true, false}
 use native.Mathlib.Omega.{arith}
 use native.Mathlib.Numerals.{add-one}
@@ -10,27 +9,15 @@ use lib.Dec.{ltb}
 use borrow.Author.Tests.{ltb-false}
 use lib.ListN.{length, getD, drop, set}
 use lib.Seq.{sets}
-use Rattle.walk.specs.Reader.{Read, got, bad, Code, c-context, c-universe, c-infer, c-check, c-normalise, c-equal, codes, Call, read-run}
+use Rattle.walk.specs.Reader.{Read, got, bad, Call, read-run}
 use Rattle.syntax.specs.Told.{code-number, call-at, next-of, next-in, told, unless-long, scanned}
+use Rattle.syntax.specs.Kinds.{code-is}
 use Rattle.syntax.specs.Calls.{CallsAt, FirstCall, first-call, last-call, run-is}
 use Rattle.syntax.specs.Codes.{codes-of, codes-in, unless-over, call-codes, Readable}
 use Rattle.syntax.specs.declared.scan.Next.{Next}
 use Rattle.syntax.specs.declared.scan.Next.the-variants.{Past}
 use Rattle.syntax.specs.declared.scan.Scanned.the-variants.{Calls, Refused}
 use Rattle.syntax.proofs.Runs.{past-call}
-
--- The byte of a call's code is the code's number.
-pub code-byte : (b : ℕ) (c : Code) → getD codes b none ≡ some c → b ≡ code-number c
--- written by tools/written.py: codes by byte
-code-byte zero c e = let q : c-context ≡ c = cc in rw (← q)
-code-byte (suc zero) c e = let q : c-universe ≡ c = cc in rw (← q)
-code-byte (suc (suc zero)) c e = let q : c-infer ≡ c = cc in rw (← q)
-code-byte (suc (suc (suc zero))) c e = let q : c-check ≡ c = cc in rw (← q)
-code-byte (suc (suc (suc (suc zero)))) c e = let q : c-normalise ≡ c = cc in rw (← q)
-code-byte (suc (suc (suc (suc (suc zero))))) c e = let q : c-equal ≡ c = cc in rw (← q)
-code-byte (suc (suc (suc (suc (suc (suc n)))))) c e = absurd (let z : _≡_ {A = ℕ} 0 1 = cc in omega arith)
-
--- end of codes by byte
 
 -- What is left of the codes to store, from call i at an offset on: those of the calls that stand there.
 pub record Left (bytes whole codes : List ℕ) (at i : ℕ) : Type 0 where
@@ -46,7 +33,7 @@ turn t bytes whole codes at i p l h e = go (first-call (l .there) h) (past-call 
     go f q =
         let both : got (f .call) (drop (f .next) bytes) (f .next) ≡ got (q .0) (drop p bytes) p = sym (f .here .reads) ∙ q .1 in
         let here : f .next ≡ p = cc in
-        let byte : getD bytes at 0 ≡ code-number (f .call .code) = code-byte (getD bytes at 0) (f .call .code) (f .here .code) in
+        let byte : getD bytes at 0 ≡ code-number (f .call .code) = code-is (getD bytes at 0) (f .call .code) (f .here .code) in
         let first : codes-of (l .calls) ≡ code-number (f .call .code) ∷ codes-of (f .others) = ap codes-of (f .is) in
         record { calls = f .others; there = rw (← here) (f .more); same = l .same ∙ rw (first, byte, add-one i) }
 
