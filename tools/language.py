@@ -234,3 +234,43 @@ REFUSALS = [
     Refusal(19, 'nesting', 'a function would be entered past the nesting limit'),
     Refusal(20, 'cells', 'a new cell is needed, and none is left, or 4,294,967,295 are used'),
 ]
+
+# ---- Ahead of the program: what a change request adds that has not landed. The tools in Rust have it behind a switch (tools/oracle/README.md);
+# nothing is written from it for the program. The landing moves each line to its list above.
+
+AHEAD_TERMS = [
+    kind(11, 'sigma', 'Sigma', 'A: term; B: term under a variable'),
+    kind(12, 'pair', 'Pair', 'A: term, not shown; a: term; b: term'),
+    kind(13, 'fst', 'Fst', 'p: term'),
+    kind(14, 'snd', 'Snd', 'p: term'),
+]
+
+AHEAD_RULES = [Rule(number, name, judgment) for number, name, judgment in [
+    (95, 'type.sigma', 'has'),
+    (96, 'type.pair', 'has'),
+    (97, 'type.fst', 'has'),
+    (98, 'type.snd', 'has'),
+    (99, 'eq.fst-beta', 'eq'),
+    (100, 'eq.snd-beta', 'eq'),
+    (101, 'shift.sigma', 'shift'),
+    (102, 'shift.pair', 'shift'),
+    (103, 'shift.fst', 'shift'),
+    (104, 'shift.snd', 'shift'),
+    (105, 'subst.sigma', 'subst'),
+    (106, 'subst.pair', 'subst'),
+    (107, 'subst.fst', 'subst'),
+    (108, 'subst.snd', 'subst'),
+    (109, 'dshift.sigma', 'dshift'),
+    (110, 'dshift.pair', 'dshift'),
+    (111, 'dshift.fst', 'dshift'),
+    (112, 'dshift.snd', 'dshift'),
+    (113, 'dsubst.sigma', 'dsubst'),
+    (114, 'dsubst.pair', 'dsubst'),
+    (115, 'dsubst.fst', 'dsubst'),
+    (116, 'dsubst.snd', 'dsubst'),
+]]
+
+AHEAD_REFUSALS = [
+    Refusal(21, 'no-pair', 'the subject of a projection has no sigma type after `expose`'),
+    Refusal(22, 'no-sigma', "a pair's annotation is not written as a sigma"),
+]

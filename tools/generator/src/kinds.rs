@@ -4,8 +4,10 @@ use crate::term::Part;
 use Interval::*;
 use Term::*;
 
-/// Every byte with a meaning: codes and kinds.
-pub const LETTERS: [u8; 17] = [0, 1, 2, 3, 4, 5, 6, 7, 8, 9, 10, 16, 17, 18, 19, 20, 21];
+/// Every byte with a meaning: codes and kinds. Then those that stand ahead of the program.
+pub const LETTERS: &[u8] =
+    &[0, 1, 2, 3, 4, 5, 6, 7, 8, 9, 10, 11, 12, 13, 14, 16, 17, 18, 19, 20, 21];
+pub const AHEAD: &[u8] = &[11, 12, 13, 14];
 
 #[derive(Clone, Debug, PartialEq, Eq)]
 pub enum Interval {
@@ -29,6 +31,10 @@ pub enum Term {
     Path(Box<Term>, Box<Term>, Box<Term>),
     Plam(Box<Term>, Box<Term>),
     Papp(Box<Term>, Interval),
+    Sigma(Box<Term>, Box<Term>),
+    Pair(Box<Term>, Box<Term>, Box<Term>),
+    Fst(Box<Term>),
+    Snd(Box<Term>),
 }
 
 pub fn pi(a: Term, b: Term) -> Term {
@@ -48,6 +54,18 @@ pub fn plam(a: Term, b: Term) -> Term {
 }
 pub fn papp(a: Term, b: Interval) -> Term {
     Papp(Box::new(a), b)
+}
+pub fn sigma(a: Term, b: Term) -> Term {
+    Sigma(Box::new(a), Box::new(b))
+}
+pub fn pair(a: Term, b: Term, c: Term) -> Term {
+    Pair(Box::new(a), Box::new(b), Box::new(c))
+}
+pub fn fst(a: Term) -> Term {
+    Fst(Box::new(a))
+}
+pub fn snd(a: Term) -> Term {
+    Snd(Box::new(a))
 }
 pub fn neg(a: Interval) -> Interval {
     Neg(Box::new(a))
@@ -99,6 +117,10 @@ impl Term {
             Path(a, b, c) => (8, vec![Part::Term(a), Part::Term(b), Part::Term(c)]),
             Plam(a, b) => (9, vec![Part::Hidden(a), Part::Term(b)]),
             Papp(a, b) => (10, vec![Part::Term(a), Part::Interval(b)]),
+            Sigma(a, b) => (11, vec![Part::Term(a), Part::Term(b)]),
+            Pair(a, b, c) => (12, vec![Part::Hidden(a), Part::Term(b), Part::Term(c)]),
+            Fst(a) => (13, vec![Part::Term(a)]),
+            Snd(a) => (14, vec![Part::Term(a)]),
         }
     }
 
@@ -120,6 +142,10 @@ impl Term {
             Path(a, b, c) => path(t(a, 0, 1), t(b, 0, 0), t(c, 0, 0)),
             Plam(a, b) => plam(t(a, 0, 1), t(b, 0, 1)),
             Papp(a, b) => papp(t(a, 0, 0), r(b)),
+            Sigma(a, b) => sigma(t(a, 0, 0), t(b, 1, 0)),
+            Pair(a, b, c) => pair(t(a, 0, 0), t(b, 0, 0), t(c, 0, 0)),
+            Fst(a) => fst(t(a, 0, 0)),
+            Snd(a) => snd(t(a, 0, 0)),
         }
     }
 
@@ -136,6 +162,10 @@ impl Term {
             Path(a, b, c) => vec![a, b, c],
             Plam(a, b) => vec![a, b],
             Papp(a, _) => vec![a],
+            Sigma(a, b) => vec![a, b],
+            Pair(a, b, c) => vec![a, b, c],
+            Fst(a) => vec![a],
+            Snd(a) => vec![a],
         }
     }
 }

@@ -93,6 +93,10 @@ impl Cells {
             Term::Path(a, b, c) => [8, self.term(a)?, self.term(b)?, self.term(c)?],
             Term::PathLam(a, b) => [9, self.term(a)?, self.term(b)?, 0],
             Term::PathApp(a, b) => [10, self.term(a)?, self.interval(b)?, 0],
+            Term::Sigma(a, b) => [11, self.term(a)?, self.term(b)?, 0],
+            Term::Pair(a, b, c) => [12, self.term(a)?, self.term(b)?, self.term(c)?],
+            Term::Fst(a) => [13, self.term(a)?, 0, 0],
+            Term::Snd(a) => [14, self.term(a)?, 0, 0],
             // end of cells of terms
         };
         self.one(node)

@@ -53,6 +53,10 @@ pub const KINDS: &[Kind] = &[
     kind(8, "path", Term, &[Term, Term, Term], &[1, 2, 3], &[1, 2, 3]),
     kind(9, "plam", Term, &[Term, Term], &[2], &[1, 2]),
     kind(10, "papp", Term, &[Term, Interval], &[1, 2], &[1, 2]),
+    kind(11, "sigma", Term, &[Term, Term], &[1, 2], &[1, 2]),
+    kind(12, "pair", Term, &[Term, Term, Term], &[2, 3], &[1, 2, 3]),
+    kind(13, "fst", Term, &[Term], &[1], &[1]),
+    kind(14, "snd", Term, &[Term], &[1], &[1]),
     kind(16, "i0", Interval, &[], &[], &[]),
     kind(17, "i1", Interval, &[], &[], &[]),
     kind(18, "dim", Interval, &[Number], &[], &[]),
@@ -105,7 +109,7 @@ pub const JUDGMENTS: &[(&str, &[Sort])] = &[
 
 /// The rules by number: the name, and the number of the judgment concluded.
 // written by tools/written.py: rules
-pub const RULES: [(&str, usize); 95] = [
+pub const RULES: [(&str, usize); 117] = [
     ("ctx.nil", 0),
     ("ctx.cons", 0),
     ("dshiftctx.nil", 1),
@@ -201,6 +205,28 @@ pub const RULES: [(&str, usize); 95] = [
     ("eq.pbeta", 14),
     ("eq.p0", 14),
     ("eq.p1", 14),
+    ("type.sigma", 13),
+    ("type.pair", 13),
+    ("type.fst", 13),
+    ("type.snd", 13),
+    ("eq.fst-beta", 14),
+    ("eq.snd-beta", 14),
+    ("shift.sigma", 9),
+    ("shift.pair", 9),
+    ("shift.fst", 9),
+    ("shift.snd", 9),
+    ("subst.sigma", 10),
+    ("subst.pair", 10),
+    ("subst.fst", 10),
+    ("subst.snd", 10),
+    ("dshift.sigma", 11),
+    ("dshift.pair", 11),
+    ("dshift.fst", 11),
+    ("dshift.snd", 11),
+    ("dsubst.sigma", 12),
+    ("dsubst.pair", 12),
+    ("dsubst.fst", 12),
+    ("dsubst.snd", 12),
 ];
 // end of rules
 
@@ -213,5 +239,24 @@ pub fn rule_number(name: &str) -> usize {
 /// How many terms a call of each code has; the highest number of a refusal.
 // written by tools/written.py: calls and refusals
 pub const CALLS: [usize; 6] = [0, 1, 1, 2, 2, 3];
-pub const LAST_REFUSAL: usize = 20;
+pub const LAST_REFUSAL: usize = 22;
 // end of calls and refusals
+
+/// Of these, what stands ahead of the program and is off unless it is asked for:
+/// its kinds, and where the rules and refusals before it end.
+// written by tools/written.py: ahead of the program
+pub const AHEAD_KINDS: [u8; 4] = [11, 12, 13, 14];
+pub const LANDED_RULES: usize = 95;
+pub const LANDED_REFUSAL: usize = 20;
+// end of ahead of the program
+
+/// Counts by the number of a refusal and of a rule. Of those ahead of the program
+/// none is shown, or missed, where none was met.
+pub fn counted<'a>(numbers: &'a [u64], rules: &'a [u64]) -> (&'a [u64], &'a [u64]) {
+    let mut ahead = numbers[LANDED_REFUSAL + 1..=LAST_REFUSAL].iter().chain(&rules[LANDED_RULES..]);
+    if ahead.any(|count| *count > 0) {
+        (&numbers[..=LAST_REFUSAL], rules)
+    } else {
+        (&numbers[..=LANDED_REFUSAL], &rules[..LANDED_RULES])
+    }
+}
