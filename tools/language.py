@@ -263,3 +263,8 @@ REFUSALS = [
     Refusal(21, 'no-sigma', 'the subject of a projection has no sigma type after `expose`'),
     Refusal(22, 'annotation', 'the annotation of a pair is not written as a sigma'),
 ]
+
+# ---- Ahead of the program: what a change request adds that has not landed. The tools in Rust have it behind a switch (tools/oracle/README.md);
+# nothing is written from it for the program. The landing moves each line to its list above.
+
+AHEAD_TERMS, AHEAD_RULES, AHEAD_REFUSALS = [], [], []

@@ -2,6 +2,7 @@
 import re
 import sys
 
+from language import AHEAD_REFUSALS, AHEAD_RULES, AHEAD_TERMS  # noqa: F401
 from language import CALLS, CONTEXTS, INFERENCE, INTERVALS, JUDGMENTS, LIMITS, REFUSALS, RULES, RUN_REFUSALS, TERMS  # noqa: F401
 
 ALL = TERMS + INTERVALS + CONTEXTS
@@ -38,11 +39,12 @@ def for_both(path, name, line, terms='term'):
 def well_formed():
     """The table's own sense: numbers in order, names that fit a listing's column, judgments that are there."""
     names = [j.name for j in JUDGMENTS]
-    for place, rule in enumerate(RULES):
+    for place, rule in enumerate(RULES + AHEAD_RULES):
         if rule.number != place or rule.judgment not in names or len(rule.name) > 16:
             sys.exit('tools/language.py: rule %d, %s: its number, its judgment or its length' % (place, rule.name))
-    bytes_ = [k.byte for k in ALL]
-    if bytes_ != sorted(set(bytes_)) or any(len(k.parts) > 3 for k in ALL) or any(len(j.parts) > 5 for j in JUDGMENTS):
+    kinds = TERMS + AHEAD_TERMS + INTERVALS + CONTEXTS
+    bytes_ = [k.byte for k in kinds]
+    if bytes_ != sorted(set(bytes_)) or any(len(k.parts) > 3 for k in kinds) or any(len(j.parts) > 5 for j in JUDGMENTS):
         sys.exit('tools/language.py: kinds in the order of their bytes, with at most three parts; judgments with at most five')
 
 

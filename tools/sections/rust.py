@@ -1,5 +1,11 @@
 """The tools in Rust: the tables that the oracle and the comparison read, the oracle's nodes, the generator's terms."""
-from .common import ALL, CALLS, INFERENCE, INTERVALS, JUDGMENTS, LIMITS, NOTE, REFUSALS, RULES, TERMS, parts_of, section, vars_of, whole
+from . import common
+from .common import (AHEAD_REFUSALS, AHEAD_RULES, AHEAD_TERMS, CALLS, CONTEXTS, INFERENCE, INTERVALS, JUDGMENTS, LIMITS, NOTE, REFUSALS,
+                     parts_of, section, vars_of, whole)
+
+# These tools know what stands ahead of the program too.
+TERMS, RULES = common.TERMS + AHEAD_TERMS, common.RULES + AHEAD_RULES
+ALL = TERMS + INTERVALS + CONTEXTS
 
 TABLES, READER, CELLS = ['tools/oracle/src/%s.rs' % name for name in ('language', 'reader', 'cells')]
 GENERATOR = 'tools/generator/src/kinds.rs'
@@ -54,7 +60,14 @@ def _():
 @section(TABLES, 'calls and refusals')
 def _():
     return ['pub const CALLS: [usize; %d] = [%s];' % (len(CALLS), ', '.join(str(len(c.terms)) for c in CALLS)),
-            'pub const LAST_REFUSAL: usize = %d;' % (LIMITS + REFUSALS)[-1].number]
+            'pub const LAST_REFUSAL: usize = %d;' % (LIMITS + REFUSALS + AHEAD_REFUSALS)[-1].number]
+
+
+@section(TABLES, 'ahead of the program')
+def _():
+    return ['pub const AHEAD_KINDS: [u8; %d] = [%s];' % (len(AHEAD_TERMS), ', '.join(str(k.byte) for k in AHEAD_TERMS)),
+            'pub const LANDED_RULES: usize = %d;' % len(common.RULES),
+            'pub const LANDED_REFUSAL: usize = %d;' % (LIMITS + REFUSALS)[-1].number]
 
 
 # ---- the oracle's nodes: the source's own constructors
@@ -96,7 +109,7 @@ nodes(INTERVALS, 'Interval')
 
 @section(CELLS, 'other cells')
 def _():
-    return ['const %s: u32 = %d;' % (k.name.upper(), k.byte) for k in ALL if k not in TERMS + INTERVALS]
+    return ['const %s: u32 = %d;' % (k.name.upper(), k.byte) for k in ALL if k in CONTEXTS]
 
 
 # ---- the generator's terms
@@ -164,17 +177,23 @@ def terms_method():
     return method(['Its parts that are terms.'], ['pub fn terms(&mut self) -> Vec<&mut Term> {'], TERMS, arm)
 
 
+def letters(name, numbers):
+    """On one line, or broken as rustfmt does."""
+    head, text = 'pub const %s: &[u8] =' % name, '&[%s];' % ', '.join(map(str, numbers))
+    return [head + ' ' + text] if len(head + text) < WIDTH else [head, '    ' + text]
+
+
 @whole(GENERATOR)
 def _():
-    letters = sorted({c.code for c in CALLS} | {k.byte for k in TERMS + INTERVALS})
+    bytes_ = sorted({c.code for c in CALLS} | {k.byte for k in TERMS + INTERVALS})
     t, r = 't: &dyn Fn(&Term, usize, usize) -> Term', 'r: &dyn Fn(&Interval) -> Interval'
     of_intervals = with_method(['With each part put through `r`.'], [r], 'Interval', INTERVALS)
     of_terms = with_method(['With each part put through `t`, which is told how many variables and how many',
                             'dimensions it stands under, or through `r`.'], [t, r], 'Term', TERMS)
     out = ['//! The kinds of terms and intervals, with what follows from their parts alone.', '//! ' + NOTE]
     out += ['use crate::term::Part;', 'use Interval::*;', 'use Term::*;', '']
-    out += ['/// Every byte with a meaning: codes and kinds.']
-    out += filled('pub const LETTERS: [u8; %d] = [' % len(letters), [str(n) for n in letters], '];') + ['']
+    out += ['/// Every byte with a meaning: codes and kinds. Then those that stand ahead of the program.']
+    out += letters('LETTERS', bytes_) + letters('AHEAD', [k.byte for k in AHEAD_TERMS]) + ['']
     out += enum(INTERVALS, 'Interval') + enum(TERMS, 'Term')
     out += constructors(TERMS, 'Term') + constructors(INTERVALS, 'Interval') + ['']
     out += block('impl Interval {', parts_method(INTERVALS) + [''] + of_intervals) + ['']

@@ -13,12 +13,12 @@ mod work;
 #[cfg(test)]
 mod tests;
 
-use generator::Case;
+use generator::{Case, Terms};
 use std::io::{self, Write};
 use std::path::Path;
 use std::process::ExitCode;
 use tally::Tally;
-use work::{Asked, Sides, Source};
+use work::{Asked, Source};
 
 const USAGE: &str = "\
 compare SEED COUNT [FIRST]        runs FIRST, FIRST + 1, .. of the generator
@@ -32,6 +32,7 @@ compare bench [KIND..] [--times N]  times of both sides, N processes each (5)
 compare growth KIND [--times N]   times of the program on the first 1/64, 1/32, .. of a large run
 compare play SIDE KIND TIMES      one process of these: program, source or counted
     --full        every run in 50,000 rows, at the highest nesting limit
+    --pairs       runs with pair types
     --work STEPS  gives a run up where the oracle takes more (10,000,000)
     --threads N   (2)
     --cuts N      each run cut after each of its first N calls too (0)
@@ -85,7 +86,7 @@ fn compared(asked: &Asked) -> io::Result<Option<Tally>> {
     match found {
         None => out.push_str("no difference\n"),
         Some(found) => {
-            let explain = || Sides::new(asked.work, asked.cuts).explain(found);
+            let explain = || asked.sides().explain(found);
             out.push_str(&oracle::on_large_stack(explain));
         }
     }
@@ -159,6 +160,7 @@ fn one_side(side: &str, kind: &str, times: &str) -> ExitCode {
 fn asked(words: &[&str]) -> Option<Asked> {
     let mut asked = Asked {
         source: Source::Listed(Vec::new()),
+        terms: Terms::Plain,
         first: 0,
         count: 0,
         full: false,
@@ -171,6 +173,7 @@ fn asked(words: &[&str]) -> Option<Asked> {
     while let Some(word) = words.next() {
         match word {
             "--full" => asked.full = true,
+            "--pairs" => asked.terms = Terms::Pairs,
             "--work" => asked.work = words.next()?.parse().ok()?,
             "--threads" => asked.threads = words.next()?.parse().ok()?,
             "--cuts" => asked.cuts = words.next()?.parse().ok()?,
@@ -179,8 +182,8 @@ fn asked(words: &[&str]) -> Option<Asked> {
         }
     }
     let listed = match plain[..] {
-        ["seeds"] => Some(generator::seeds()),
-        ["short", length] => Some(generator::short(length.parse().ok()?).collect()),
+        ["seeds"] => Some(generator::seeds(asked.terms)),
+        ["short", length] => Some(generator::short(asked.terms, length.parse().ok()?).collect()),
         ["batch"] => Some(batch()?),
         _ => None,
     };

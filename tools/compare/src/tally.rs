@@ -1,5 +1,5 @@
 //! What a comparison met, counted.
-use oracle::language::{rule_number, LAST_REFUSAL, RULES};
+use oracle::language::{counted, rule_number, LAST_REFUSAL, RULES};
 use oracle::Ran;
 use std::fmt::{self, Write};
 
@@ -112,7 +112,8 @@ impl Tally {
         let none = |counts: &[u64], from: usize| {
             (from..counts.len()).filter(|i| counts[*i] == 0).collect()
         };
-        (none(&self.numbers, 1), none(&self.rules, 0))
+        let (numbers, rules) = counted(&self.numbers, &self.rules);
+        (none(numbers, 1), none(rules, 0))
     }
 
     fn refused(&self) -> u64 {
@@ -143,8 +144,9 @@ impl Tally {
         let [cuts, rows, cells] = self.cuts;
         writeln!(out, "cut after a call {cuts} rows {rows} cells {cells}")?;
         writeln!(out, "calls not cut after, though others follow {}", self.uncut)?;
-        line(out, "refusals", &self.numbers, 1)?;
-        line(out, "rules", &self.rules, 0)?;
+        let (numbers, rules) = counted(&self.numbers, &self.rules);
+        line(out, "refusals", numbers, 1)?;
+        line(out, "rules", rules, 0)?;
         let (numbers, rules) = self.missing();
         writeln!(out, "refusals not met {numbers:?} rules not met {rules:?}")
     }

@@ -5,7 +5,7 @@ use crate::same::compare;
 use crate::shrink::shrunk;
 use crate::tally::Tally;
 use crate::work::Sides;
-use generator::Case;
+use generator::{case, Case, Terms};
 use oracle::{on_large_stack, Options, Ran, Slices};
 
 /// docs/FORMAT.md's worked example: check zero at nat.
@@ -212,7 +212,7 @@ fn some_runs_compare() {
     on_large_stack(|| {
         let mut sides = Sides::new(1_000_000, 0);
         for place in 0..300 {
-            sides.compare(&generator::case(5, place)).unwrap();
+            sides.compare(&case(Terms::Plain, 5, place)).unwrap();
         }
         assert_eq!(sides.tally.runs + sides.tally.slow, 300);
         assert!(sides.tally.numbers[0] > 300);
@@ -236,7 +236,7 @@ fn the_parts_at_scale_can_be_asked_for() {
 fn some_runs_compare_when_cut() {
     on_large_stack(|| {
         let [mut whole, mut cut] = [0, 9_999].map(|cuts| Sides::new(1_000_000, cuts));
-        for case in (0..300).map(|place| generator::case(6, place)) {
+        for case in (0..300).map(|place| case(Terms::Plain, 6, place)) {
             whole.compare(&case).unwrap();
             cut.compare(&case).unwrap();
         }

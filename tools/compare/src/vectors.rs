@@ -7,7 +7,7 @@
 //! listing that the oracle gives.
 use crate::tally::Tally;
 use crate::work::Sides;
-use generator::Case;
+use generator::{Case, Terms};
 use oracle::{listing, Ran};
 use std::collections::BTreeSet;
 use std::io::{Error, Result};
@@ -103,7 +103,7 @@ fn vector(sides: &mut Sides, name: String, mut case: Case) -> Option<Vector> {
 /// the longest run beside one that is too long.
 fn by_hand(sides: &mut Sides) -> Vec<Vector> {
     let known = known().into_iter();
-    let seeds = generator::seeds().into_iter().enumerate();
+    let seeds = generator::seeds(Terms::Plain).into_iter().enumerate();
     let seeds = seeds.map(|(i, case)| (format!("by hand {i}"), case));
     let long = [65_536, 65_537].map(|n| (format!("{n} bytes"), long(n)));
     let all = known.chain(seeds).chain(long);
@@ -144,7 +144,8 @@ fn known() -> Vec<(String, Case)> {
 /// ones with the shortest text, then a sample.
 fn by_chance(sides: &mut Sides, seed: u64, chosen: &mut Vec<Vector>) {
     let mut some: Vec<Vector> = (0..PLACES)
-        .filter_map(|place| vector(sides, format!("{seed}/{place}"), generator::case(seed, place)))
+        .map(|place| (format!("{seed}/{place}"), generator::case(Terms::Plain, seed, place)))
+        .filter_map(|(name, case)| vector(sides, name, case))
         .filter(|v| v.text.len() <= LONGEST && v.case.bytes.len() < 2_000)
         .collect();
     let mut order: Vec<usize> = (0..some.len()).collect();

@@ -5,7 +5,7 @@ use crate::same::{compare, Difference};
 use crate::shown::{oracle_text, program_text};
 use crate::shrink::shrunk;
 use crate::tally::Tally;
-use generator::Case;
+use generator::{Case, Terms};
 use oracle::{play, Options, Ran, Slices};
 use std::fmt::Write;
 use std::sync::atomic::{AtomicBool, AtomicU64, Ordering};
@@ -20,6 +20,7 @@ pub enum Source {
 
 pub struct Asked {
     pub source: Source,
+    pub terms: Terms,
     pub first: u64,
     pub count: u64,
     /// Every run in a table of 50,000 rows, with the highest nesting limit.
@@ -45,10 +46,17 @@ const STACK: usize = 512 << 20;
 const STEP: u64 = 16;
 
 impl Asked {
+    /// Both sides. With pairs the oracle plays what stands ahead of the program.
+    pub fn sides(&self) -> Sides {
+        let mut sides = Sides::new(self.work, self.cuts);
+        sides.options.ahead = self.terms == Terms::Pairs;
+        sides
+    }
+
     fn cases(&self, place: u64) -> Vec<Case> {
         let mut cases = match &self.source {
-            Source::Seeded(seed) => vec![generator::case(*seed, place)],
-            Source::Swept(seed) => generator::sweep(*seed, place).collect(),
+            Source::Seeded(seed) => vec![generator::case(self.terms, *seed, place)],
+            Source::Swept(seed) => generator::sweep(self.terms, *seed, place).collect(),
             Source::Listed(cases) => vec![cases[place as usize].clone()],
         };
         if self.full {
@@ -66,7 +74,7 @@ impl Asked {
             for _ in 0..self.threads {
                 let thread = std::thread::Builder::new().stack_size(STACK);
                 let work = || {
-                    let mut side = Sides::new(self.work, self.cuts);
+                    let mut side = self.sides();
                     let some = self.work_off(&mut side, &next, &stop);
                     total.lock().unwrap().join(&side.tally);
                     found.lock().unwrap().extend(some);

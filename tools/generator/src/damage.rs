@@ -1,12 +1,12 @@
 //! Copies with something wrong in them: in the terms of a call, or in bytes.
 use crate::calls::Call;
 use crate::random::Random;
-use crate::term::{app, lam, papp, path, pi, plam, Interval, Term, LETTERS};
+use crate::term::{app, fst, lam, pair, papp, path, pi, plam, sigma, snd, Interval, Term, LETTERS};
 use Interval::{Dim, I0};
 use Term::*;
 
 fn leaf(random: &mut Random) -> Term {
-    match random.below(9) {
+    match random.below_with_pairs(9, 3) {
         0 => Nat,
         1 => Zero,
         2 | 3 => V(random.below(4)),
@@ -14,6 +14,9 @@ fn leaf(random: &mut Random) -> Term {
         5 => lam(Nat, V(0)),
         6 => pi(Nat, Nat),
         7 => path(Nat, Zero, Zero),
+        9 => sigma(Nat, Nat),
+        10 => pair(sigma(Nat, Nat), Zero, Zero),
+        11 => fst(V(random.below(3))),
         _ => plam(Nat, Zero),
     }
 }
@@ -27,7 +30,7 @@ fn inside(random: &mut Random, t: &mut Term) {
         return;
     }
     let old = t.clone();
-    *t = match (random.below(6), old) {
+    *t = match (random.below_with_pairs(6, 4), old) {
         (0, Lam(a, b)) => Pi(a, b),
         (0, Pi(a, b)) => Lam(a, b),
         (0, App(a, b)) => App(b, a),
@@ -35,9 +38,18 @@ fn inside(random: &mut Random, t: &mut Term) {
         (0, Papp(p, _)) => Papp(p, Dim(random.below(4))),
         (0, V(n)) => V(n + 1),
         (0, U(n)) => U(n + 1),
+        (0, Sigma(a, b)) => Pi(a, b),
+        (0, Pair(ty, a, b)) => Pair(ty, b, a),
+        (0, Fst(p)) => Snd(p),
+        (0, Snd(p)) => Fst(p),
         (1, old) => app(old, Zero),
         (2, old) => papp(old, I0),
         (3, old) => app(lam(Nat, old.shift()), Zero),
+        (6, old) => fst(old),
+        (7, old) => snd(old),
+        (8, Pi(a, b)) => Sigma(a, b),
+        (8, Pair(_, a, b)) => Pair(Box::new(leaf(random)), a, b),
+        (9, old) => fst(pair(sigma(Nat, Nat), old, Zero)),
         (_, _) => leaf(random),
     };
 }

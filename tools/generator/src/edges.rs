@@ -1,20 +1,27 @@
 //! Calls on each side of a limit: scope, depth, nodes, indices.
 use crate::calls::Call;
 use crate::random::Random;
-use crate::term::{app, lam, neg, papp, path, pi, plam, Interval, Term};
+use crate::term::{app, fst, lam, neg, pair, papp, path, pi, plam, sigma, snd, Interval, Term};
 use Interval::{Dim, I0};
 use Term::*;
 
 /// A term whose deepest node is at this depth, by a spine of mixed kinds with
 /// `leaf` at its end.
 fn spine(random: &mut Random, depth: usize, leaf: Term) -> Term {
-    (0..depth).fold(leaf, |t, _| match random.below(7) {
+    (0..depth).fold(leaf, |t, _| match random.below_with_pairs(7, 7) {
         0 => pi(Nat, t),
         1 => lam(t, Zero),
         2 => app(t, Zero),
         3 => path(Nat, t, Zero),
         4 => path(Nat, Zero, t),
         5 => plam(t, Zero),
+        7 => sigma(Nat, t),
+        8 => sigma(t, Nat),
+        9 => pair(t, Zero, Zero),
+        10 => pair(sigma(Nat, Nat), t, Zero),
+        11 => pair(sigma(Nat, Nat), Zero, t),
+        12 => fst(t),
+        13 => snd(t),
         _ => papp(t, I0),
     })
 }

@@ -1,5 +1,5 @@
-//! Runs to compare by: `case(seed, place)` is one of endlessly many, `seeds()`
-//! are those written by hand.
+//! Runs to compare by: `case(terms, seed, place)` is one of endlessly many,
+//! `seeds(terms)` are those written by hand.
 mod bench;
 mod calls;
 mod damage;
@@ -7,6 +7,7 @@ mod edges;
 mod kinds;
 mod large;
 mod meeting;
+mod pairs;
 mod random;
 mod runs;
 mod seeds;
@@ -16,9 +17,12 @@ mod typed;
 
 pub use bench::case as bench;
 pub use calls::Case;
-pub use random::Random;
+pub use random::{Random, Terms};
 pub use runs::{case, short, sweep};
 
-pub fn seeds() -> Vec<Case> {
-    seeds::cases()
+pub fn seeds(terms: Terms) -> Vec<Case> {
+    match terms {
+        Terms::Plain => seeds::cases(),
+        Terms::Pairs => pairs::cases(),
+    }
 }

@@ -1,12 +1,17 @@
 //! Writes runs as a batch: those at COUNT places from FIRST on under SEED (with
-//! sweep, each in many slices), those written by hand, or all short ones.
+//! sweep, each in many slices), those written by hand, or all short ones; with
+//! --pairs such that have pairs.
+use generator::Terms;
 use std::io::{self, BufWriter, Write};
 use std::process::ExitCode;
 
 type Cases = Box<dyn Iterator<Item = generator::Case>>;
 
-const USAGE: &str =
-    "generator [sweep] SEED COUNT [FIRST]\ngenerator seeds\ngenerator short LENGTH\n";
+const USAGE: &str = "\
+generator [--pairs] [sweep] SEED COUNT [FIRST]
+generator [--pairs] seeds
+generator [--pairs] short LENGTH
+";
 
 fn main() -> ExitCode {
     let words: Vec<String> = std::env::args().skip(1).collect();
@@ -27,12 +32,15 @@ fn main() -> ExitCode {
 }
 
 fn cases(words: &[String]) -> Option<Cases> {
+    let pairs = words.first().is_some_and(|word| word == "--pairs");
+    let terms = if pairs { Terms::Pairs } else { Terms::Plain };
+    let words = &words[usize::from(pairs)..];
     if words == ["seeds"] {
-        return Some(Box::new(generator::seeds().into_iter()));
+        return Some(Box::new(generator::seeds(terms).into_iter()));
     }
     if let [word, length] = words {
         if word == "short" {
-            return Some(Box::new(generator::short(length.parse().ok()?)));
+            return Some(Box::new(generator::short(terms, length.parse().ok()?)));
         }
     }
     let sweep = words.first().is_some_and(|word| word == "sweep");
@@ -45,8 +53,8 @@ fn cases(words: &[String]) -> Option<Cases> {
     };
     let places = first..first + count;
     Some(if sweep {
-        Box::new(places.flat_map(move |place| generator::sweep(seed, place)))
+        Box::new(places.flat_map(move |place| generator::sweep(terms, seed, place)))
     } else {
-        Box::new(places.map(move |place| generator::case(seed, place)))
+        Box::new(places.map(move |place| generator::case(terms, seed, place)))
     })
 }

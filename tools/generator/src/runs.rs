@@ -1,15 +1,17 @@
 //! Whole runs, one for each place under a seed.
 use crate::calls::{Call, Case, FULL, LISTING};
-use crate::random::Random;
-use crate::term::{app, lam, neg, papp, path, pi, plam, Interval, Term, LETTERS};
+use crate::random::{Random, Terms};
+use crate::term::{
+    app, fst, lam, neg, pair, papp, path, pi, plam, sigma, snd, Interval, Term, AHEAD, LETTERS,
+};
 use crate::typed::{Maker, Scope};
-use crate::{damage, edges, shapes};
+use crate::{damage, edges, pairs, shapes};
 use Interval::{I0, I1};
 use Term::{Nat, Zero, U, V};
 
 /// The run at this place under this seed.
-pub fn case(seed: u64, place: u64) -> Case {
-    let random = &mut Random::new(seed, place);
+pub fn case(terms: Terms, seed: u64, place: u64) -> Case {
+    let random = &mut Random::new(seed, place).of(terms);
     if random.chance(1, 25) {
         return noise(random);
     }
@@ -31,8 +33,9 @@ pub fn case(seed: u64, place: u64) -> Case {
 fn noise(random: &mut Random) -> Case {
     let length = random.pick(&[0, 1, 2, 3, 5, 8, 13, 40, 200]);
     let small = random.chance(2, 3);
-    let mut bytes: Vec<u8> =
-        (0..length).map(|_| random.below(if small { 12 } else { 256 }) as u8).collect();
+    let mut bytes: Vec<u8> = (0..length)
+        .map(|_| if small { random.below_with_pairs(12, 4) } else { random.below(256) } as u8)
+        .collect();
     if bytes.len() > 2 && random.chance(3, 4) {
         bytes[..2].copy_from_slice(&[100, 0]);
     }
@@ -43,7 +46,8 @@ fn noise(random: &mut Random) -> Case {
 }
 
 fn some_calls(random: &mut Random) -> Vec<Call> {
-    match random.below(20) {
+    match random.below_with_pairs(20, 6) {
+        20.. => pairs::calls(random),
         0..=11 => typed(random),
         12..=14 => {
             let mut calls = typed(random);
@@ -94,10 +98,12 @@ fn typed(random: &mut Random) -> Vec<Call> {
             new(4, &[t, wanted])
         }
         _ => {
-            let other = match maker.0.below(4) {
+            let other = match maker.0.below_with_pairs(4, 2) {
                 0 => maker.at(&s, &ty, fuel).unwrap_or(Zero),
                 1 => maker.reannotated(&s, &t, false),
                 2 => app(lam(Nat, t.shift()), Zero),
+                4 => fst(pair(sigma(ty.clone(), Nat), t.clone(), Zero)),
+                5 => snd(pair(sigma(Nat, ty.shift()), Zero, t.clone())),
                 _ => app(lam(ty.clone(), V(0)), t.clone()),
             };
             let sides = if maker.0.chance(1, 2) { [t, other, ty] } else { [other, t, ty] };
@@ -243,8 +249,8 @@ fn slices(random: &mut Random, calls: usize) -> [u32; 3] {
 /// One run, played with every short table, every short store and every small
 /// limit: where each ends shows the order in which rows, cells and functions are
 /// counted. Later calls ask for the parts, so that it shows which cells there are.
-pub fn sweep(seed: u64, place: u64) -> impl Iterator<Item = Case> {
-    let random = &mut Random::new(seed, place);
+pub fn sweep(terms: Terms, seed: u64, place: u64) -> impl Iterator<Item = Case> {
+    let random = &mut Random::new(seed, place).of(terms);
     let mut calls = typed(random);
     for mut t in calls[0].terms.clone().into_iter().chain(calls[0].context.clone()) {
         let parts: Vec<Term> = t.terms().into_iter().rev().map(|part| part.clone()).collect();
@@ -266,12 +272,15 @@ pub fn sweep(seed: u64, place: u64) -> impl Iterator<Item = Case> {
 
 /// Every run of so many bytes after the header (limit 100) that is made of the
 /// bytes with a meaning: codes, kinds, small numbers.
-pub fn short(length: u32) -> impl Iterator<Item = Case> {
-    let base = LETTERS.len();
+pub fn short(terms: Terms, length: u32) -> impl Iterator<Item = Case> {
+    let all = LETTERS.iter().copied();
+    let letters: Vec<u8> =
+        all.filter(|byte| terms == Terms::Pairs || !AHEAD.contains(byte)).collect();
+    let base = letters.len();
     (0..base.pow(length)).map(move |mut n| {
         let mut bytes = vec![100, 0];
         for _ in 0..length {
-            bytes.push(LETTERS[n % base]);
+            bytes.push(letters[n % base]);
             n /= base;
         }
         Case { slices: LISTING, bytes }

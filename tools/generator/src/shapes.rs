@@ -6,7 +6,7 @@ use crate::term::{app, lam, papp, path, pi, plam, Interval, Term};
 use Interval::{Dim, I0, I1};
 use Term::*;
 
-fn times(n: usize, start: Term, step: impl Fn(Term) -> Term) -> Term {
+pub fn times(n: usize, start: Term, step: impl Fn(Term) -> Term) -> Term {
     (0..n).fold(start, |t, _| step(t))
 }
 

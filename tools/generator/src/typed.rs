@@ -1,7 +1,9 @@
 //! Terms made along their types, so that most calls are accepted. A term may
 //! still be refused, where a type is met only up to conversion: that is wanted.
 use crate::random::Random;
-use crate::term::{app, join, lam, meet, neg, papp, path, pi, plam, Interval, Term};
+use crate::term::{
+    app, fst, join, lam, meet, neg, pair, papp, path, pi, plam, sigma, snd, Interval, Term,
+};
 use Interval::{Dim, I0, I1};
 use Term::*;
 
@@ -30,6 +32,48 @@ impl Scope {
     fn type_of(&self, n: usize) -> Term {
         self.types[self.types.len() - 1 - n].lifted(n + 1, 0)
     }
+
+    /// The level of a type, as far as it is plain to see.
+    fn level(&self, ty: &Term) -> usize {
+        match ty {
+            U(l) => l + 1,
+            Pi(a, b) | Sigma(a, b) => self.level(a).max(self.with(a).level(b)),
+            Path(a, _, _) => self.deeper().level(a),
+            V(n) if *n < self.types.len() => match self.type_of(*n) {
+                U(l) => l,
+                _ => 0,
+            },
+            _ => 0,
+        }
+    }
+}
+
+/// A root reduction, where there is one.
+fn reduced(t: &Term) -> Option<Term> {
+    match t {
+        App(f, x) => match &**f {
+            Lam(_, body) => Some(body.subst(x)),
+            _ => None,
+        },
+        Papp(p, r) => match &**p {
+            Plam(_, body) => Some(body.dsubst(r)),
+            _ => None,
+        },
+        Fst(p) => match &**p {
+            Pair(_, first, _) => Some((**first).clone()),
+            _ => None,
+        },
+        Snd(p) => match &**p {
+            Pair(_, _, second) => Some((**second).clone()),
+            _ => None,
+        },
+        _ => None,
+    }
+}
+
+/// A type after a few root reductions.
+fn exposed(ty: Term) -> Term {
+    (0..4).try_fold(ty, |ty, _| reduced(&ty).ok_or(ty)).unwrap_or_else(|ty| ty)
 }
 
 /// Makes terms; `fuel` bounds their size.
@@ -77,13 +121,17 @@ impl Maker<'_> {
         if fuel == 0 {
             return plain(self);
         }
-        match self.0.below(6) {
-            0 | 1 => {
+        match self.0.below_with_pairs(6, 4) {
+            n @ (0 | 1 | 6..=8) => {
                 let low = self.0.below(level + 1);
                 let (i, j) = if self.0.chance(1, 2) { (low, level) } else { (level, low) };
                 let a = self.typ(s, i, fuel - 1);
                 let b = self.typ(&s.with(&a), j, fuel - 1);
-                pi(a, b)
+                if n < 2 {
+                    pi(a, b)
+                } else {
+                    sigma(a, b)
+                }
             }
             2 | 3 => {
                 let family = self.typ(&s.deeper(), level, fuel - 1);
@@ -94,7 +142,7 @@ impl Maker<'_> {
                     _ => plain(self),
                 }
             }
-            4 => {
+            4 | 9 => {
                 let ty = plain(self);
                 self.disguised(s, &ty).unwrap_or(ty)
             }
@@ -122,15 +170,8 @@ impl Maker<'_> {
                 Some(lam((**a).clone(), body))
             }
             Path(a, b, c) => self.path_at(a, b, c),
-            App(f, x) => match &**f {
-                Lam(_, body) => self.at(s, &body.subst(x), fuel),
-                _ => None,
-            },
-            Papp(p, r) => match &**p {
-                Plam(_, body) => self.at(s, &body.dsubst(r), fuel),
-                _ => None,
-            },
-            _ => None,
+            Sigma(a, b) => self.pair_at(s, a, b, fuel.saturating_sub(1)),
+            _ => reduced(ty).and_then(|ty| self.at(s, &ty, fuel)),
         }
         .or_else(|| self.variable(s, ty))
     }
@@ -146,15 +187,42 @@ impl Maker<'_> {
         }
     }
 
+    fn pair_at(&mut self, s: &Scope, a: &Term, b: &Term, fuel: usize) -> Option<Term> {
+        let first = self.at(s, a, fuel)?;
+        let second = self.at(s, &b.subst(&first), fuel)?;
+        Some(pair(sigma(a.clone(), b.clone()), first, second))
+    }
+
     fn variable(&mut self, s: &Scope, ty: &Term) -> Option<Term> {
         let fit: Vec<usize> = (0..s.types.len()).filter(|n| s.type_of(*n).alike(ty)).collect();
         (!fit.is_empty()).then(|| V(self.0.pick(&fit)))
     }
 
-    /// A term of this type that is an application.
+    /// A projection of this type: of what has the sigma type, or of a pair whose
+    /// second type is its first part.
+    fn projection(&mut self, s: &Scope, ty: &Term, fuel: usize) -> Option<Term> {
+        let (level, less) = (self.level(), fuel / 2);
+        match self.0.below(5) {
+            0 | 1 => {
+                let b = self.typ(&s.with(ty), level, less);
+                Some(fst(self.at(s, &sigma(ty.clone(), b), fuel - 1)?))
+            }
+            2 | 3 => {
+                let a = self.typ(s, level, less);
+                Some(snd(self.at(s, &sigma(a, ty.shift()), fuel - 1)?))
+            }
+            _ => {
+                let t = self.at(s, ty, fuel - 1)?;
+                Some(snd(pair(sigma(U(s.level(ty)), V(0)), ty.clone(), t)))
+            }
+        }
+    }
+
+    /// A term of this type that is an application or a projection.
     fn wrapped(&mut self, s: &Scope, ty: &Term, fuel: usize) -> Option<Term> {
         let less = fuel / 2;
-        match self.0.below(7) {
+        match self.0.below_with_pairs(7, 5) {
+            7.. => self.projection(s, ty, fuel),
             0 | 1 => {
                 let level = self.level();
                 let a = self.typ(s, level, less);
@@ -184,11 +252,16 @@ impl Maker<'_> {
         }
     }
 
-    /// A function or a path of the context, applied.
+    /// A function or a path of the context, applied; a part of one of its pairs.
     fn used(&mut self, s: &Scope, ty: &Term, fuel: usize) -> Option<Term> {
         let mut fit = Vec::new();
         for n in 0..s.types.len() {
-            match s.type_of(n) {
+            let given = s.type_of(n);
+            match if self.0.pairs() { exposed(given) } else { given } {
+                Sigma(a, b) => {
+                    let parts = [(fst(V(n)), *a), (snd(V(n)), b.subst(&fst(V(n))))];
+                    fit.extend(parts.into_iter().filter(|(_, a)| a.alike(ty)).map(|(t, _)| t));
+                }
                 Pi(a, b) => {
                     if let Some(x) = self.at(s, &a, fuel).filter(|x| b.subst(x).alike(ty)) {
                         fit.push(app(V(n), x));
@@ -210,8 +283,16 @@ impl Maker<'_> {
         (!fit.is_empty()).then(|| self.0.pick(&fit))
     }
 
-    /// The same type, not yet reduced: an application that reduces to it.
+    /// The same type, not yet reduced: an application or a projection that reduces
+    /// to it.
     pub fn disguised(&mut self, s: &Scope, ty: &Term) -> Option<Term> {
+        if self.0.pairs() && self.0.chance(1, 3) {
+            let u = U(s.level(ty));
+            return Some(match self.0.below(2) {
+                0 => fst(pair(sigma(u, Nat), ty.clone(), Zero)),
+                _ => snd(pair(sigma(Nat, u), Zero, ty.clone())),
+            });
+        }
         let a = self.typ(s, 0, 0);
         let x = self.at(s, &a, 0)?;
         Some(app(lam(a, ty.shift()), x))
@@ -235,7 +316,12 @@ impl Maker<'_> {
                 self.reannotate(&s.deeper(), b, wild);
                 **a = self.annotation(&s.deeper(), a, wild);
             }
-            Pi(a, b) => {
+            Pair(ty, a, b) => {
+                self.reannotate(s, a, wild);
+                self.reannotate(s, b, wild);
+                **ty = self.pair_annotation(s, ty, wild);
+            }
+            Pi(a, b) | Sigma(a, b) => {
                 self.reannotate(&s.with(a), b, wild);
                 self.reannotate(s, a, wild);
             }
@@ -248,8 +334,19 @@ impl Maker<'_> {
                 self.reannotate(s, a, wild);
                 self.reannotate(s, b, wild);
             }
-            Papp(p, _) => self.reannotate(s, p, wild),
+            Papp(p, _) | Fst(p) | Snd(p) => self.reannotate(s, p, wild),
             U(_) | V(_) | Nat | Zero => {}
+        }
+    }
+
+    /// A sigma again, unless any type will do.
+    fn pair_annotation(&mut self, s: &Scope, ty: &Term, wild: bool) -> Term {
+        match ty {
+            Sigma(a, b) if !(wild && self.0.chance(1, 3)) => {
+                let b = self.annotation(&s.with(a), b, wild);
+                sigma(self.annotation(s, a, wild), b)
+            }
+            _ => self.annotation(s, ty, wild),
         }
     }
 

@@ -1,5 +1,5 @@
-//! The kinds of edit, and how each is made. Every edit must fit at exactly one
-//! place; one that fits nowhere, or twice, stops the build.
+//! The kinds of edit, and how each is made. Every edit but `Each` must fit at
+//! exactly one place; one that fits nowhere, or twice, stops the build.
 
 /// What is done at the place that an edit finds.
 pub enum Edit {
@@ -8,6 +8,8 @@ pub enum Edit {
     Cut(&'static str),
     /// Put the second text in the place of the first.
     Put(&'static str, &'static str),
+    /// Put the second text in the place of the first wherever that stands.
+    Each(&'static str, &'static str),
     /// Take out the method call that starts so, with its arguments.
     CutCall(&'static str),
     /// Put a refusal's number in the place of the error `Err(..)` whose text
@@ -46,6 +48,10 @@ fn place(
             let a = only(text, from, to, old)?;
             (a, a + old.len(), (*new).to_owned())
         }
+        Edit::Each(old, _) if !text[from..to].contains(old) => {
+            return Err(format!("{old:?} is not there"));
+        }
+        Edit::Each(old, new) => (from, to, text[from..to].replace(old, new)),
         Edit::CutCall(start) => {
             let a = only(text, from, to, start)?;
             (a, close(text, a, start)?, String::new())

@@ -1,6 +1,6 @@
-//! The edits, all of them: what is done to the source's three files to make
+//! The edits, all of them: what is done to the source's four files to make
 //! them the oracle. Function bodies stay as they are but for the lines below.
-use crate::editing::Edit::{Cut, CutCall, Put, Refuse};
+use crate::editing::Edit::{Cut, CutCall, Each, Put, Refuse};
 use crate::editing::Step;
 
 /// A source file, the name of its edited copy, and its edits.
@@ -8,6 +8,7 @@ pub const FILES: &[(&str, &str, &[Step])] = &[
     ("src/cubical/ast.rs", "ast.rs", AST),
     ("src/cubical/producer/syntax.rs", "syntax.rs", SYNTAX),
     ("src/cubical/producer.rs", "producer.rs", PRODUCER),
+    ("src/cubical/producer/sigma.rs", "sigma.rs", SIGMA),
 ];
 
 const AST: &[Step] = &[
@@ -20,12 +21,9 @@ const AST: &[Step] = &[
     Step("", Cut("pub enum Definition {")),
     Step("", Cut("impl Definition {")),
     Step("", Cut("pub(super) fn system(")),
-    // Nor are the kinds of term beyond the ten.
+    // Nor are the kinds of term beyond the ten and those of pairs, which the
+    // reader lets through where they are asked for.
     Step("pub enum Term {", Cut("Defined(")),
-    Step("pub enum Term {", Cut("Sigma(")),
-    Step("pub enum Term {", Cut("Pair(")),
-    Step("pub enum Term {", Cut("Fst(")),
-    Step("pub enum Term {", Cut("Snd(")),
     Step("pub enum Term {", Cut("System(")),
     Step("pub enum Term {", Cut("Comp(")),
     Step("pub enum Term {", Cut("GlueType(")),
@@ -40,10 +38,6 @@ const AST: &[Step] = &[
     Step("", Cut("pub(super) fn has_sigma(")),
     // The arms of `quote` for the kinds that are gone.
     Step("", Cut("Self::Defined(def) =>")),
-    Step("", Cut("Self::Sigma(a, b) =>")),
-    Step("", Cut("Self::Pair(_, a, b) =>")),
-    Step("", Cut("Self::Fst(t) =>")),
-    Step("", Cut("Self::Snd(t) =>")),
     Step("", Cut("Self::System(_, sides) =>")),
     Step("", Cut("Self::GlueType(a, phi, t, e) =>")),
     Step("", Cut("Self::Glue(g, u, v) =>")),
@@ -59,9 +53,8 @@ const SYNTAX: &[Step] = &[
     Step("", Cut("pub(super) fn face(")),
     // The arms of `term` for the kinds that are gone.
     Step("", Cut("Term::Defined(def) =>")),
-    Step("", Cut("| Term::Sigma(a, b)")),
-    Step("", Put(" | Term::Pair(a, b, c) | Term::Glue(a, b, c)", "")),
-    Step("", Cut("Term::Fst(p) |")),
+    Step("", Put(" | Term::Glue(a, b, c)", "")),
+    Step("", Put(" | Term::Unglue(p)", "")),
     Step("", Cut("Term::Comp(a, phi, tube, base) |")),
     Step("", Cut("Term::System(ty, sides) =>")),
     // Numbers at the errors.
@@ -72,7 +65,7 @@ const SYNTAX: &[Step] = &[
 
 const PRODUCER: &[Step] = &[
     // Modules that the profile doesn't use, and with the first of them the
-    // comment on the file; `syntax` is declared in src/cubical.rs.
+    // comment on the file; `sigma` and `syntax` are declared in src/cubical.rs.
     Step("", Cut("mod composition;")),
     Step("", Cut("mod congruence;")),
     Step("", Cut("mod definitions;")),
@@ -127,10 +120,6 @@ const PRODUCER: &[Step] = &[
     Step("", Put("fn max(", "fn max_source(")),
     // The arms of `transform` for the kinds that are gone.
     Step("fn transform_source(", Cut("Defined(_) =>")),
-    Step("fn transform_source(", Put("Pi(a, b) | Sigma(a, b) =>", "Pi(a, b) =>")),
-    Step("fn transform_source(", Put("Sigma(Box::new(a), Box::new(b))", "unreachable!()")),
-    Step("fn transform_source(", Cut("Pair(ty, a, b) =>")),
-    Step("fn transform_source(", Cut("Fst(p) | Snd(p) =>")),
     Step("fn transform_source(", Cut("GlueType(a, phi, t, e) =>")),
     Step("fn transform_source(", Cut("Glue(g, u, v) =>")),
     Step("fn transform_source(", Cut("Unglue(u) =>")),
@@ -138,12 +127,27 @@ const PRODUCER: &[Step] = &[
     Step("fn transform_source(", Cut("System(ty, sides) =>")),
     // Those of `infer` and of `reduce`.
     Step("fn infer_source(", Cut("Defined(_) =>")),
-    Step("fn infer_source(", Cut("Sigma(..) |")),
     Step("fn infer_source(", Cut("GlueType(..) |")),
     Step("fn infer_source(", Cut("Comp(..) =>")),
     Step("fn infer_source(", Cut("System(ty, sides) =>")),
     Step("fn reduce_source(", Cut("Comp(..) |")),
-    Step("fn reduce_source(", Cut("System(ty, sides) =>")),
+    // Pairs are inferred and reduced without a face. The rule and its premises go
+    // to the row of `infer`, as any other kind's; no row is exported.
+    Step(
+        "Sigma(..) | Pair(..)",
+        Put("let (ty, restricted) = self.sigma_infer((d, g), &Face::True, t)?;", ""),
+    ),
+    Step(
+        "Sigma(..) | Pair(..)",
+        Put("(ty, vec![restricted], \"rhas.export\")", "self.sigma_infer((d, g), t)?"),
+    ),
+    Step(
+        "fn reduce_source(",
+        Put(
+            "System(ty, sides) => self.reduce_system(d, g, sides, ty),",
+            "Fst(..) | Snd(..) => self.sigma_reduce((d, g), t),",
+        ),
+    ),
     // A result takes cells just before the row that names it.
     Step(
         "fn itransform_source(",
@@ -216,4 +220,52 @@ const PRODUCER: &[Step] = &[
     Step("", Cut("pub fn produce_with_profile(")),
     Step("", Cut("fn produce_selected(")),
     Step("", Cut("fn produce_on_this_stack(")),
+];
+
+const SIGMA: &[Step] = &[
+    // As above.
+    Step("", Put("//! Untrusted", "// Untrusted")),
+    Step("", Put("use super::{Face, ", "use super::{Refusal, ")),
+    // Pairs are equal by root reduction alone.
+    Step("", Cut("pub(super) fn sigma_eta(")),
+    // No face: `infer`, `universe`, `check` and `expose` for the restricted calls.
+    Step("fn sigma_subject(", Cut("phi: &Face,")),
+    Step("pub(super) fn sigma_infer(", Cut("phi: &Face,")),
+    Step("pub(super) fn sigma_reduce(", Cut("phi: &Face,")),
+    Step("", Each(", phi", "")),
+    Step("", Each("self.restricted_infer(", "self.infer(")),
+    Step("", Each("self.restricted_universe(", "self.universe(")),
+    Step("", Each("self.restricted_check(", "self.check(")),
+    Step("", Put(".restricted_expose(scope, p", ".expose(scope.0, scope.1, p")),
+    // The rules, as the change request names them.
+    Step("", Put("\"rhas.sigma\"", "\"type.sigma\"")),
+    Step("", Put("\"rhas.pair\"", "\"type.pair\"")),
+    Step("", Put("\"rhas.fst\"", "\"type.fst\"")),
+    Step("", Put("\"rhas.snd\"", "\"type.snd\"")),
+    Step("", Put("\"req.fst-beta\"", "\"eq.fst-beta\"")),
+    Step("", Put("\"req.snd-beta\"", "\"eq.snd-beta\"")),
+    // `infer` makes the row, and takes the type's cells before it; an equation's
+    // row is that of any other reduction.
+    Step(
+        "pub(super) fn sigma_infer(",
+        Put("Result<(Term, usize)>", "Result<(Term, Vec<usize>, &'static str)>"),
+    ),
+    Step("pub(super) fn sigma_infer(", Cut("let id = self.rhas(")),
+    Step("pub(super) fn sigma_infer(", Put("Ok((ty, id))", "Ok((ty, refs, rule))")),
+    Step(
+        "pub(super) fn sigma_reduce(",
+        Put("Result<Option<(Term, Term, usize)>>", "Result<Option<(Term, usize)>>"),
+    ),
+    Step(
+        "pub(super) fn sigma_reduce(",
+        Put(
+            "self.restricted_evidence(rule, refs, scope, (t, &out), &ty)?",
+            "self.equality_step(rule, refs, scope, t, &out, &ty)?",
+        ),
+    ),
+    Step("pub(super) fn sigma_reduce(", Put("Ok(Some((out, ty, id)))", "Ok(Some((out, id)))")),
+    // Numbers at the errors; the last can't happen.
+    Step("fn sigma_subject(", Refuse("projection requires", 21)),
+    Step("pub(super) fn sigma_infer(", Refuse("pair annotation must", 22)),
+    Step("pub(super) fn sigma_infer(", Put("\"expected Sigma syntax\".into()", "Refusal::NEVER")),
 ];

@@ -1,5 +1,5 @@
 //! Which refusals and rules a set of runs meets, and how often.
-use crate::language::{rule_number, LAST_REFUSAL, RULES};
+use crate::language::{counted, rule_number, RULES};
 use crate::run::Ran;
 use std::fmt::{self, Write};
 
@@ -45,20 +45,16 @@ impl Cover {
             "runs {} slow {} calls {} rows {}",
             self.runs, self.slow, self.calls, self.rows
         )?;
+        let (numbers, rules) = counted(&self.numbers, &self.rules);
         for (number, count) in self.numbers.iter().enumerate() {
-            if *count > 0 || number <= LAST_REFUSAL {
+            if *count > 0 || number < numbers.len() {
                 writeln!(out, "number {number} {count}")?;
             }
         }
-        for (number, count) in self.rules.iter().enumerate() {
+        for (number, count) in rules.iter().enumerate() {
             writeln!(out, "rule {number} {} {count}", RULES[number].0)?;
         }
         let missing = |counts: &[u64]| counts.iter().filter(|count| **count == 0).count();
-        writeln!(
-            out,
-            "missing {} {}",
-            missing(&self.numbers[..=LAST_REFUSAL]),
-            missing(&self.rules)
-        )
+        writeln!(out, "missing {} {}", missing(numbers), missing(rules))
     }
 }

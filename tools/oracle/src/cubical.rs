@@ -11,6 +11,10 @@ pub mod ast {
 pub mod producer {
     include!(concat!(env!("OUT_DIR"), "/producer.rs"));
 
+    mod sigma {
+        include!(concat!(env!("OUT_DIR"), "/sigma.rs"));
+    }
+
     mod syntax {
         include!(concat!(env!("OUT_DIR"), "/syntax.rs"));
     }

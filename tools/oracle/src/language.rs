@@ -241,3 +241,22 @@ pub fn rule_number(name: &str) -> usize {
 pub const CALLS: [usize; 6] = [0, 1, 1, 2, 2, 3];
 pub const LAST_REFUSAL: usize = 22;
 // end of calls and refusals
+
+/// Of these, what stands ahead of the program and is off unless it is asked for:
+/// its kinds, and where the rules and refusals before it end.
+// written by tools/written.py: ahead of the program
+pub const AHEAD_KINDS: [u8; 0] = [];
+pub const LANDED_RULES: usize = 117;
+pub const LANDED_REFUSAL: usize = 22;
+// end of ahead of the program
+
+/// Counts by the number of a refusal and of a rule. Of those ahead of the program
+/// none is shown, or missed, where none was met.
+pub fn counted<'a>(numbers: &'a [u64], rules: &'a [u64]) -> (&'a [u64], &'a [u64]) {
+    let mut ahead = numbers[LANDED_REFUSAL + 1..=LAST_REFUSAL].iter().chain(&rules[LANDED_RULES..]);
+    if ahead.any(|count| *count > 0) {
+        (&numbers[..=LAST_REFUSAL], rules)
+    } else {
+        (&numbers[..=LANDED_REFUSAL], &rules[..LANDED_RULES])
+    }
+}

@@ -14,6 +14,7 @@ oracle cover [--work STEPS]
 oracle time [--work STEPS] [--times N] [--plain]
     reads runs, plays each N times, prints how many there are and how long they
     took; --plain counts no cells, so that the time is the source's own
+--ahead, of each: with the kinds that stand ahead of the program (tools/language.py)
 ";
 
 struct Asked {
@@ -58,6 +59,10 @@ fn asked() -> Option<Asked> {
         }
         if word == "--plain" {
             asked.options.counting = false;
+            continue;
+        }
+        if word == "--ahead" {
+            asked.options.ahead = true;
             continue;
         }
         let number: u64 = words.next()?.parse().ok()?;

@@ -1,6 +1,6 @@
 //! A run's bytes: the nesting limit and the calls, or refusal 3 with its place.
 use crate::cubical::ast::{Interval, Term};
-use crate::language::CALLS;
+use crate::language::{AHEAD_KINDS, CALLS};
 
 pub struct Call {
     pub code: u8,
@@ -15,10 +15,12 @@ pub struct Bad(pub usize);
 struct Reader<'a> {
     bytes: &'a [u8],
     at: usize,
+    /// Whether kinds that stand ahead of the program are read.
+    ahead: bool,
 }
 
-pub fn read(bytes: &[u8]) -> Result<(u32, Vec<Call>), Bad> {
-    let mut reader = Reader { bytes, at: 0 };
+pub fn read(bytes: &[u8], ahead: bool) -> Result<(u32, Vec<Call>), Bad> {
+    let mut reader = Reader { bytes, at: 0, ahead };
     let low = reader.byte()?;
     let limit = u32::from(low) + 256 * u32::from(reader.byte()?);
     if !(1..=4096).contains(&limit) {
@@ -61,7 +63,11 @@ impl Reader<'_> {
 
     fn term(&mut self) -> Result<Term, Bad> {
         let at = self.at;
-        Ok(match self.byte()? {
+        let kind = self.byte()?;
+        if AHEAD_KINDS.contains(&kind) && !self.ahead {
+            return Err(Bad(at));
+        }
+        Ok(match kind {
             // written by tools/written.py: terms by their bytes
             1 => Term::Universe(self.number()?),
             2 => Term::Var(self.number()?),

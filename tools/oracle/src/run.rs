@@ -24,11 +24,13 @@ pub struct Options {
     pub counting: bool,
     /// How many entries, and how many counted nodes, a run may take.
     pub work: u64,
+    /// Whether what stands ahead of the program (tools/language.py) is played.
+    pub ahead: bool,
 }
 
 impl Default for Options {
     fn default() -> Self {
-        Self { counting: true, work: u64::MAX }
+        Self { counting: true, work: u64::MAX, ahead: false }
     }
 }
 
@@ -81,7 +83,7 @@ pub fn play(bytes: &[u8], slices: Slices, options: &Options) -> Option<Ran> {
     if bytes.len() > MAX_BYTES {
         return refused(2, 0);
     }
-    let (limit, calls) = match read(bytes) {
+    let (limit, calls) = match read(bytes, options.ahead) {
         Ok(run) => run,
         Err(Bad(place)) => return refused(3, place),
     };
