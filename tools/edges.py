@@ -43,6 +43,7 @@ def node(kind):
 NODES = {kind.name: node(kind) for kind in TERMS + INTERVALS}
 NAT, ZERO, I0, I1 = (NODES[name] for name in ('nat', 'zero', 'i0', 'i1'))
 u, v, pi, lam, app, path, plam, papp, dim, neg = (NODES[name] for name in 'u v pi lam app path plam papp dim neg'.split())
+sigma, pair, fst, snd = (NODES[name] for name in 'sigma pair fst snd'.split())
 
 # Bytes that are no code, no kind of a term, no kind of an interval: next to those that are.
 NO_CODE = CALLS[-1].code + 1
@@ -252,6 +253,29 @@ def walks():
     case('six-calls', open(os.path.join(ROOT, 'samples/six-calls'), 'rb').read())
 
 
+def pairs():
+    say('Pairs: their types and parts, 21 and 22; the second part at another type than its own is 14.')
+    both = sigma(NAT, NAT)
+    p = pair(both, ZERO, ZERO)
+    case('pair', run(100, call(2, 0, [], [both]), call(2, 0, [], [p])))
+    case('projections', run(100, call(2, 0, [], [fst(p)]), call(2, 0, [], [snd(p)])))
+    case('parts', run(100, call(4, 0, [], [fst(p), NAT]), call(4, 0, [], [snd(p), NAT])))
+    case('no-sigma', run(100, call(2, 0, [], [fst(ZERO)])))
+    case('no-sigma-second', run(100, call(2, 0, [], [snd(u(0))])))
+    case('no-annotation', run(100, call(2, 0, [], [pair(NAT, ZERO, ZERO)])))
+    exposed = app(lam(u(0), v(0)), both)
+    case('annotation-to-expose', run(100, call(2, 0, [], [pair(exposed, ZERO, ZERO)])))
+    case('subject-to-expose', run(100, call(2, 0, [exposed], [fst(v(0))])))
+    dependent = pair(sigma(u(0), v(0)), NAT, ZERO)
+    case('second-at-its-type', run(100, call(4, 0, [], [snd(dependent), NAT]), call(4, 0, [], [snd(dependent), fst(dependent)])))
+    case('no-pair-stays', run(100, call(4, 0, [both], [fst(v(0)), NAT])))
+    case('no-eta', run(100, call(5, 0, [both], [v(0), pair(both, fst(v(0)), snd(v(0))), both])))
+    hidden = app(lam(NAT, NAT), ZERO)
+    case('pairs-with-one-quote', run(100, *[call(2, 0, [], [pair(sigma(NAT, b), ZERO, ZERO)]) for b in (NAT, hidden)]))
+    case('depth-33-of-pairs', run(100, call(2, 0, [], [times(33, fst, ZERO)])))
+    case('pair-ends-early', [100, 0, 2, 0, 0] + pair(both, ZERO, []))
+
+
 def wrapped(*heights):
     "each annotation has to be converted inside the conversion of the next"
     bases = [NAT] + [app(lam(NAT, NAT), v(0))] * (len(heights) - 1)
@@ -310,6 +334,16 @@ SAID = {
     'reductions-32': ((0, 0, 1, ANY, ANY, 0), (0, ANY, ANY, ANY)),
     'reductions-33': ((0, 0, 1, ANY, ANY, 0), (15, '-', '-', ANY)),
     'rows-50000': ((0, 0, 479, 50000, ANY, ANY), (0, 1, '-', 2), (18, '-', '-', ANY)),
+    'parts': ((0, 0, 2, ANY, ANY, 0), (0, ANY, 'zero', ANY), (0, ANY, 'zero', ANY)),
+    'no-sigma': ((0, 0, 1, ANY, ANY, 0), (21, '-', '-', ANY)),
+    'no-sigma-second': ((0, 0, 1, ANY, ANY, 0), (21, '-', '-', ANY)),
+    'no-annotation': ((0, 0, 1, 0, 4, 0), (22, '-', '-', 1)),
+    'annotation-to-expose': ((0, 0, 1, 0, ANY, 0), (22, '-', '-', 1)),
+    'subject-to-expose': ((0, 0, 1, ANY, ANY, 0), (0, ANY, 'nat', ANY)),
+    'second-at-its-type': ((0, 0, 2, ANY, ANY, 0), (14, '-', '-', ANY), (0, ANY, 'zero', ANY)),
+    'no-pair-stays': ((0, 0, 1, ANY, ANY, 0), (0, ANY, '(fst (v 0))', ANY)),
+    'no-eta': ((0, 0, 1, ANY, ANY, 0), (13, '-', '-', ANY)),
+    'depth-33-of-pairs': ((0, 0, 1, 0, 0, 0), (6, '-', '-', 0)),
     'limit-2-full-store': ((0, 0, 1, 0, 3, 0), (19, '-', '-', 2)),
     'limit-2-one-cell-less': ((0, 0, 1, 0, 2, 0), (20, '-', '-', 1)),
     'limit-1-met': ((0, 0, 2, 1, ANY, 0), (0, 0, '-', 1)),
@@ -362,7 +396,7 @@ HEAD = """\
 
 
 def write_cases():
-    for part in (at_the_edges, slices, whole_runs, call_limits, walks):
+    for part in (at_the_edges, slices, whole_runs, call_limits, walks, pairs):
         part()
     print(HEAD)
     names = set()

@@ -53,7 +53,7 @@ fn places() {
     run(b"code alone", &[100, 0, 3]);
     run(b"no length", &[100, 0, 3, 0]);
     run(b"no term", &[100, 0, 3, 0, 0]);
-    run(b"no kind", &[100, 0, 3, 0, 0, 11, 0]);
+    run(b"no kind", &[100, 0, 3, 0, 0, 15, 0]);
     run(b"no type", &[100, 0, 3, 0, 0, 4]);
     run(b"no kind in the type", &[100, 0, 3, 0, 0, 4, 0]);
     run(b"v without a number", &[100, 0, 2, 0, 0, 2]);
