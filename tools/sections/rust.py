@@ -192,8 +192,8 @@ def _():
                             'dimensions it stands under, or through `r`.'], [t, r], 'Term', TERMS)
     out = ['//! The kinds of terms and intervals, with what follows from their parts alone.', '//! ' + NOTE]
     out += ['use crate::term::Part;', 'use Interval::*;', 'use Term::*;', '']
-    out += ['/// Every byte with a meaning: codes and kinds. Then those that stand ahead of the program.']
-    out += letters('LETTERS', bytes_) + letters('AHEAD', [k.byte for k in AHEAD_TERMS]) + ['']
+    out += ['/// Every byte with a meaning: codes and kinds.']
+    out += letters('LETTERS', bytes_) + ['']
     out += enum(INTERVALS, 'Interval') + enum(TERMS, 'Term')
     out += constructors(TERMS, 'Term') + constructors(INTERVALS, 'Interval') + ['']
     out += block('impl Interval {', parts_method(INTERVALS) + [''] + of_intervals) + ['']

@@ -39,8 +39,10 @@ struct Vector {
 /// Writes the two files, and says what the runs meet.
 pub fn write(seed: u64, folder: &Path) -> Result<String> {
     let mut sides = Sides::new(10_000_000, 0);
-    let mut chosen = by_hand(&mut sides);
-    by_chance(&mut sides, seed, &mut chosen);
+    let mut chosen = by_hand(&mut sides, Terms::Plain);
+    by_chance(&mut sides, Terms::Plain, seed, &mut chosen);
+    chosen.append(&mut by_hand(&mut sides, Terms::Pairs));
+    by_chance(&mut sides, Terms::Pairs, seed, &mut chosen);
     let mut tally = Tally::default();
     let mut file = Vec::new();
     let mut said = String::new();
@@ -99,14 +101,20 @@ fn vector(sides: &mut Sides, name: String, mut case: Case) -> Option<Vector> {
     Some(Vector { name, case, ran, text })
 }
 
-/// The oracle's known runs, those of the generator that are written by hand, and
-/// the longest run beside one that is too long.
-fn by_hand(sides: &mut Sides) -> Vec<Vector> {
-    let known = known().into_iter();
-    let seeds = generator::seeds(Terms::Plain).into_iter().enumerate();
-    let seeds = seeds.map(|(i, case)| (format!("by hand {i}"), case));
-    let long = [65_536, 65_537].map(|n| (format!("{n} bytes"), long(n)));
-    let all = known.chain(seeds).chain(long);
+/// The name of a stored run: with pairs it says so.
+fn named(terms: Terms, name: String) -> String {
+    if terms == Terms::Pairs { format!("pairs {name}") } else { name }
+}
+
+/// Those of the generator that are written by hand; of plain terms also the
+/// oracle's known runs, and the longest run beside one that is too long.
+fn by_hand(sides: &mut Sides, terms: Terms) -> Vec<Vector> {
+    let plain = terms == Terms::Plain;
+    let known = known().into_iter().filter(|_| plain);
+    let seeds = generator::seeds(terms).into_iter().enumerate();
+    let seeds = seeds.map(|(i, case)| (named(terms, format!("by hand {i}")), case));
+    let long = [65_536, 65_537].map(|n| (format!("{n} bytes"), long(n))).into_iter();
+    let all = known.chain(seeds).chain(long.filter(|_| plain));
     let all = all.filter_map(|(name, case)| vector(sides, name, case));
     let mut seen = BTreeSet::new();
     all.filter(|v| {
@@ -142,9 +150,11 @@ fn known() -> Vec<(String, Case)> {
 
 /// Runs under the seed: for each refusal and rule that is met too seldom the
 /// ones with the shortest text, then a sample.
-fn by_chance(sides: &mut Sides, seed: u64, chosen: &mut Vec<Vector>) {
+fn by_chance(sides: &mut Sides, terms: Terms, seed: u64, chosen: &mut Vec<Vector>) {
     let mut some: Vec<Vector> = (0..PLACES)
-        .map(|place| (format!("{seed}/{place}"), generator::case(Terms::Plain, seed, place)))
+        .map(|place| {
+            (named(terms, format!("{seed}/{place}")), generator::case(terms, seed, place))
+        })
         .filter_map(|(name, case)| vector(sides, name, case))
         .filter(|v| v.text.len() <= LONGEST && v.case.bytes.len() < 2_000)
         .collect();

@@ -4,10 +4,9 @@ use crate::term::Part;
 use Interval::*;
 use Term::*;
 
-/// Every byte with a meaning: codes and kinds. Then those that stand ahead of the program.
+/// Every byte with a meaning: codes and kinds.
 pub const LETTERS: &[u8] =
     &[0, 1, 2, 3, 4, 5, 6, 7, 8, 9, 10, 11, 12, 13, 14, 16, 17, 18, 19, 20, 21];
-pub const AHEAD: &[u8] = &[];
 
 #[derive(Clone, Debug, PartialEq, Eq)]
 pub enum Interval {

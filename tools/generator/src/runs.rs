@@ -2,7 +2,7 @@
 use crate::calls::{Call, Case, FULL, LISTING};
 use crate::random::{Random, Terms};
 use crate::term::{
-    app, fst, lam, neg, pair, papp, path, pi, plam, sigma, snd, Interval, Term, AHEAD, LETTERS,
+    app, fst, lam, neg, pair, papp, path, pi, plam, sigma, snd, Interval, Term, LETTERS,
 };
 use crate::typed::{Maker, Scope};
 use crate::{damage, edges, pairs, shapes};
@@ -275,7 +275,7 @@ pub fn sweep(terms: Terms, seed: u64, place: u64) -> impl Iterator<Item = Case> 
 pub fn short(terms: Terms, length: u32) -> impl Iterator<Item = Case> {
     let all = LETTERS.iter().copied();
     let letters: Vec<u8> =
-        all.filter(|byte| terms == Terms::Pairs || !AHEAD.contains(byte)).collect();
+        all.filter(|byte| terms == Terms::Pairs || !pairs::KINDS.contains(byte)).collect();
     let base = letters.len();
     (0..base.pow(length)).map(move |mut n| {
         let mut bytes = vec![100, 0];
