@@ -1,7 +1,6 @@
-//! What stands ahead of the program (tools/language.py), held against the
-//! reference, which was written apart, on runs of the generator.
+//! Pair types, held against the reference, which was written apart, on runs of
+//! the generator.
 use generator::{case, seeds, Case, Terms};
-use oracle::language::AHEAD_KINDS;
 use oracle::{batch, play, Options, Slices};
 use reference::{on_large_stack, Level};
 use std::collections::BTreeSet;
@@ -10,7 +9,7 @@ const WORK: u64 = 1_000_000;
 const RUNS: u64 = 2_000;
 
 fn ours(Case { slices: [rows, cells, answers], bytes }: &Case) -> String {
-    let options = Options { work: WORK, ahead: true, ..Options::default() };
+    let options = Options { work: WORK, ..Options::default() };
     let ran = play(bytes, Slices { rows: *rows, cells: *cells, answers: *answers }, &options);
     let mut out = String::new();
     batch::write(&mut out, ran.as_ref()).unwrap();
@@ -46,13 +45,4 @@ fn pairs_as_the_reference_has_them() {
     });
     assert!((95..=116).all(|rule| rules.contains(&rule)), "{rules:?}");
     assert!(numbers.contains(&21) && numbers.contains(&22), "{numbers:?}");
-}
-
-#[test]
-fn off_unless_it_is_asked_for() {
-    for kind in AHEAD_KINDS {
-        let run = [100, 0, 2, 0, 0, kind, 3, 3, 3];
-        let ran = play(&run, Slices::default(), &Options::default()).unwrap();
-        assert_eq!((ran.number, ran.place), (3, 5), "{kind}");
-    }
 }
