@@ -10,8 +10,8 @@
 // tools/edges.py meets the limit 4,096 too, and takes 3.3 MB for that: it stands here with the limit 1,024, which takes 1.0 MB.
 use libc::STDOUT_FILENO;
 use lines::repeats;
+use ran::Ran;
 use text::Piece;
-use text::RunAnswer;
 
 // The word that slices hold before a run.
 const FILL: u32 = 2863311530;
@@ -165,7 +165,7 @@ fn past(s: &[u32], used: usize) {
 }
 
 // One call's line, as the listing has it.
-fn call(run: RunAnswer, codes: &[u8], answers: &[u32], cells: &[u32], i: u32) {
+fn call(run: Ran, codes: &[u8], answers: &[u32], cells: &[u32], i: u32) {
     let mut buf = [0u8; 4096];
     say(b"call ");
     let seen = text::window(
@@ -183,7 +183,7 @@ fn call(run: RunAnswer, codes: &[u8], answers: &[u32], cells: &[u32], i: u32) {
 }
 
 // The lines of the last eight calls.
-fn calls(run: RunAnswer, codes: &[u8], answers: &[u32], cells: &[u32]) {
+fn calls(run: Ran, codes: &[u8], answers: &[u32], cells: &[u32]) {
     let most = run.calls;
     let mut i = if most < 8 { 0 } else { most - 8 };
     while i < most {
@@ -193,7 +193,7 @@ fn calls(run: RunAnswer, codes: &[u8], answers: &[u32], cells: &[u32]) {
 }
 
 // What a run answered, and whether the words past those that it used stayed: of the whole arrays, of which it was lent a part.
-fn report(run: RunAnswer, codes: &[u8], rows: &[u32], cells: &[u32], answers: &[u32]) {
+fn report(run: Ran, codes: &[u8], rows: &[u32], cells: &[u32], answers: &[u32]) {
     say(b"run");
     shown(run.number as usize);
     shown(run.place as usize);
@@ -225,14 +225,7 @@ fn play(lent: Lent, bytes: &[u8], rows: &mut [u32], cells: &mut [u32], answers: 
     }
     let ran = run::entry::run(bytes, &mut rows[..r], &mut cells[..c], &mut answers[..a]);
     syntax::call_codes(bytes, &mut codes);
-    let run = RunAnswer {
-        number: ran.number,
-        place: ran.place,
-        calls: ran.calls,
-        rows: ran.rows,
-        cells: ran.cells,
-    };
-    report(run, &codes, rows, cells, answers);
+    report(ran, &codes, rows, cells, answers);
 }
 
 // The tables of a case, of one of two sizes.

@@ -6,7 +6,7 @@ use mathlib.Core.List.{List, [], _∷_}
 use native.Mathlib.Omega.{arith}
 use lib.ListN.{length}
 use lib.Seq.{sets}
-use Rattle.run.specs.declared.entry.Ran.{Ran}
+use Rattle.ran.specs.declared.Ran.{Ran}
 use Rattle.run.specs.Contract.{walked, numbers-of, Runs}
 
 -- a run's five numbers, in order

@@ -13,13 +13,13 @@ use Rattle.walk.specs.Run.{Ran, play-all, start, refused-run, played, run-read,
 use Rattle.syntax.specs.Told.{code-number as code-byte}
 use Rattle.syntax.specs.Codes.{codes-of as bytes-of, codes-in, unless-over, call-codes}
 use Rattle.link.specs.Lists.{written}
-use Rattle.run.specs.declared.entry.Ran.{Ran as Numbers}
+use Rattle.ran.specs.declared.Ran.{Ran as Numbers}
 use Rattle.run.specs.Contract.{walked, Runs}
 use Rattle.listed.specs.Said.{code-number}
 use Rattle.text.specs.Listing.{listing}
 use Rattle.listed.specs.Listed.{listed}
 use Rattle.listed.specs.Calls.{codes-of}
-use Rattle.listed.specs.Theorem.{answer-of, Codes-of, codes-many, codes-first, listing-is}
+use Rattle.listed.specs.Theorem.{Codes-of, codes-many, codes-first, listing-is}
 
 same-code : (c : Code) → code-byte c ≡ code-number c
 same-code c-context = refl
@@ -63,5 +63,5 @@ module _ (bytes rows cells answers : List ℕ) where
           rw (e, written [] (codes-of (walked bytes rows cells answers .calls)) codes 0 refl (omega arith)) (codes-first (walked bytes rows cells answers .calls) (drop (length (codes-of (walked bytes rows cells answers .calls))) codes))
 
   -- For all bytes and slices: the listing of what the entry leaves, with the codes that are stored.
-  pub program-lists : (r : Numbers) (rows′ cells′ answers′ codes : List ℕ) → Runs bytes rows cells answers r rows′ cells′ answers′ → length (walked bytes rows cells answers .calls) ≤ length codes → listing (answer-of r) (sets codes 0 (call-codes bytes)) answers′ rows′ cells′ ≡ listed (walked bytes rows cells answers)
+  pub program-lists : (r : Numbers) (rows′ cells′ answers′ codes : List ℕ) → Runs bytes rows cells answers r rows′ cells′ answers′ → length (walked bytes rows cells answers .calls) ≤ length codes → listing r (sets codes 0 (call-codes bytes)) answers′ rows′ cells′ ≡ listed (walked bytes rows cells answers)
   program-lists r rows′ cells′ answers′ codes h l = listing-is bytes rows cells answers r rows′ cells′ answers′ (sets codes 0 (call-codes bytes)) h (stored codes l)

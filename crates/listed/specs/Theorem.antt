@@ -12,9 +12,8 @@ use Rattle.walk.specs.Run as W
 use Rattle.walk.specs.Demand.{Derivation-order}
 use Rattle.order.specs.Cases.{run-cases}
 use Rattle.order.specs.Theorem.{demand-3}
-use Rattle.run.specs.declared.entry.Ran.{Ran}
+use Rattle.ran.specs.declared.Ran.{Ran}
 use Rattle.run.specs.Contract.{walked, numbers-of, Runs}
-use Rattle.text.specs.declared.RunAnswer.{RunAnswer}
 use Rattle.writer.specs.Text.{Text, each}
 use Rattle.lines.specs.Calls.{code, call-line}
 use Rattle.lines.specs.Repeats.{repeats}
@@ -26,10 +25,6 @@ use Rattle.listed.specs.Listed.{call-lines, row-lines, total-line, liste
 use Rattle.listed.specs.Cells.{some-is}
 use Rattle.listed.specs.Rows.{rows-said}
 use Rattle.listed.specs.Calls.{All-bare, no-answer, all-bare, codes-of, calls-in, calls-said}
-
--- The entry's five numbers, as the listing takes them.
-abbrev pub answer-of : Ran → RunAnswer
-answer-of r = record { number = r .number; place = r .place; calls = r .calls; rows = r .rows; cells = r .cells }
 
 -- The codes that the listing is given are those of the calls; what stands past them does not matter.
 pub record Codes-of (calls : List Call) (codes : List ℕ) : Type 0 where
@@ -44,19 +39,19 @@ codes-first calls rest = record { each-code = λ i l. List·getD-append (codes-o
 
 -- a listing by its parts
 module _ (ran : W.Ran) (codes A R C : List ℕ) (calls : each (call-line codes A C) 0 (length (ran .calls)) ≡ call-lines 0 (ran .answers)) (rows : each (row-line R C) 0 (length (ran .last .rows)) ≡ row-lines (ran .last .rows)) (again : repeats codes A (length (ran .calls)) ≡ W.repeats ran) where
-  read-parts : read-listing (answer-of (numbers-of ran)) codes A R C ≡ listed-read ran
+  read-parts : read-listing (numbers-of ran) codes A R C ≡ listed-read ran
   unfolding read-listing totals listed-read total-line
   read-parts = rw (calls, rows, again)
 
-  refused-parts : refused-listing (answer-of (numbers-of ran)) ≡ listed-refused ran
+  refused-parts : refused-listing (numbers-of ran) ≡ listed-refused ran
   unfolding refused-listing listed-refused
   refused-parts = refl
 
-  by-parts : listing (answer-of (numbers-of ran)) codes A R C ≡ listed ran
+  by-parts : listing (numbers-of ran) codes A R C ≡ listed ran
   unfolding listing listed
   by-parts = go (eqb (ran .number) 0)
     where
-      go : (b : Bool) → _≡_ {A = Text} (elim b [ true ↦ read-listing (answer-of (numbers-of ran)) codes A R C | false ↦ refused-listing (answer-of (numbers-of ran)) ]) (elim b [ true ↦ listed-read ran | false ↦ listed-refused ran ])
+      go : (b : Bool) → _≡_ {A = Text} (elim b [ true ↦ read-listing (numbers-of ran) codes A R C | false ↦ refused-listing (numbers-of ran) ]) (elim b [ true ↦ listed-read ran | false ↦ listed-refused ran ])
       go true = read-parts
       go false = refused-parts
 
@@ -72,7 +67,7 @@ module _ (bytes rows cells answers : List ℕ) where
   in-order : {r : Ran} {rows′ cells′ answers′ : List ℕ} → Runs bytes rows cells answers r rows′ cells′ answers′ → Derivation-order (walked bytes rows cells answers .last .rows)
   in-order h = subst Derivation-order (table-is h) (h .derived .order)
 
-  listing-of : (rows′ cells′ answers′ codes : List ℕ) → Runs bytes rows cells answers (numbers-of (walked bytes rows cells answers)) rows′ cells′ answers′ → Codes-of (walked bytes rows cells answers .calls) codes → listing (answer-of (numbers-of (walked bytes rows cells answers))) codes answers′ rows′ cells′ ≡ listed (walked bytes rows cells answers)
+  listing-of : (rows′ cells′ answers′ codes : List ℕ) → Runs bytes rows cells answers (numbers-of (walked bytes rows cells answers)) rows′ cells′ answers′ → Codes-of (walked bytes rows cells answers .calls) codes → listing (numbers-of (walked bytes rows cells answers)) codes answers′ rows′ cells′ ≡ listed (walked bytes rows cells answers)
   unfolding W.repeats
   listing-of rows′ cells′ answers′ codes h c =
       let n = length (walked bytes rows cells answers .last .cells) in
@@ -80,5 +75,5 @@ module _ (bytes rows cells answers : List ℕ) where
       by-parts (walked bytes rows cells answers) codes answers′ rows′ cells′ (calls-said n codes answers′ cells′ calls) (rows-said n rows′ cells′ _ (in-order h) (h .each-row)) (repeats-said calls)
 
 -- For all bytes and slices, whatever the entry answers and leaves in the slices, if its contract holds.
-pub listing-is : (bytes rows cells answers : List ℕ) (r : Ran) (rows′ cells′ answers′ codes : List ℕ) → Runs bytes rows cells answers r rows′ cells′ answers′ → Codes-of (walked bytes rows cells answers .calls) codes → listing (answer-of r) codes answers′ rows′ cells′ ≡ listed (walked bytes rows cells answers)
+pub listing-is : (bytes rows cells answers : List ℕ) (r : Ran) (rows′ cells′ answers′ codes : List ℕ) → Runs bytes rows cells answers r rows′ cells′ answers′ → Codes-of (walked bytes rows cells answers .calls) codes → listing r codes answers′ rows′ cells′ ≡ listed (walked bytes rows cells answers)
 listing-is bytes rows cells answers r rows′ cells′ answers′ codes h c = rw (h .numbers) (listing-of bytes rows cells answers rows′ cells′ answers′ codes (rw (h .numbers) at h) c)

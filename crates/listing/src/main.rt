@@ -2,12 +2,12 @@
 // small, so that a short listing takes several too, and each is twice the one before, up to the buffer.
 ghost use Prim.Native.Nat.{_≤_};
 use libc::STDOUT_FILENO;
+use ran::Ran;
 use text::Piece;
-use text::RunAnswer;
 
 // The part of the listing from `from` on that fits the buffer; whether there is more.
 fn put(
-    run: RunAnswer,
+    run: Ran,
     codes: &[u8],
     answers: &[u32],
     rows: &[u32],
@@ -32,7 +32,7 @@ fn put(
 
 // A window of `size` bytes.
 fn turn(
-    run: RunAnswer,
+    run: Ran,
     codes: &[u8],
     answers: &[u32],
     rows: &[u32],
@@ -46,7 +46,7 @@ fn turn(
     put(run, codes, answers, rows, cells, from, &mut buf[..size])
 }
 
-fn show(run: RunAnswer, codes: &[u8], answers: &[u32], rows: &[u32], cells: &[u32]) {
+fn show(run: Ran, codes: &[u8], answers: &[u32], rows: &[u32], cells: &[u32]) {
     let mut from: usize = 0;
     let mut size: usize = 64;
     while from < 9223372036854775808 {
@@ -68,12 +68,5 @@ fn main() {
     let mut codes = [0u8; 4096];
     let ran = run::entry::run(&input[..n], &mut rows, &mut cells, &mut answers);
     syntax::call_codes(&input[..n], &mut codes);
-    let answer = RunAnswer {
-        number: ran.number,
-        place: ran.place,
-        calls: ran.calls,
-        rows: ran.rows,
-        cells: ran.cells,
-    };
-    show(answer, &codes, &answers, &rows, &cells);
+    show(ran, &codes, &answers, &rows, &cells);
 }

@@ -2,9 +2,9 @@
 // and that no word past the used ones changed. How a stored run is laid out: tools/compare/src/vectors.rs.
 ghost use Prim.Native.Nat.{_<_};
 use libc::STDOUT_FILENO;
+use ran::Ran;
 use syntax::call_codes;
 use text::Piece;
-use text::RunAnswer;
 
 // What the slices hold before a run.
 const FILL: u32 = 2779096485;
@@ -91,7 +91,7 @@ fn apart(a: &[u8; 16384], b: &[u8; 16384], size: usize) -> usize {
 
 // The text from `from` on, at most the buffer's length of it; how many bytes came.
 fn shown(
-    run: RunAnswer,
+    run: Ran,
     codes: &[u8],
     answers: &[u32],
     rows: &[u32],
@@ -142,7 +142,7 @@ fn text_of(buf: &mut [u8; 16384], size: usize) {
 
 // Reads the next `size` bytes of the stored text, and compares what came with them; says where they part, unless an earlier part did.
 fn part(
-    run: RunAnswer,
+    run: Ran,
     codes: &[u8],
     answers: &[u32],
     rows: &[u32],
@@ -172,7 +172,7 @@ fn part(
 
 // Whether the text is the stored one, which has `total` bytes.
 fn texts(
-    run: RunAnswer,
+    run: Ran,
     codes: &[u8],
     answers: &[u32],
     rows: &[u32],
@@ -212,7 +212,7 @@ fn past(s: &[u32], used: usize, label: &[u8]) -> bool {
 const WRONG: u32 = 4294967295;
 
 // A run that is refused as a whole has no calls, rows or cells; the text doesn't show that.
-fn fair(run: RunAnswer) -> bool {
+fn fair(run: Ran) -> bool {
     if run.number == 0 {
         return true;
     }
@@ -221,7 +221,7 @@ fn fair(run: RunAnswer) -> bool {
 
 // Whether a run left what is stored; gives the number of its calls, or `WRONG`.
 fn judge(
-    run: RunAnswer,
+    run: Ran,
     total: usize,
     codes: &[u8],
     answers: &[u32],
@@ -251,18 +251,6 @@ fn judge(
     }
 }
 
-// Plays a run.
-fn play(bytes: &[u8], rows: &mut [u32], cells: &mut [u32], answers: &mut [u32]) -> RunAnswer {
-    let ran = run::entry::run(bytes, rows, cells, answers);
-    RunAnswer {
-        number: ran.number,
-        place: ran.place,
-        calls: ran.calls,
-        rows: ran.rows,
-        cells: ran.cells,
-    }
-}
-
 // Plays a run and compares what it left.
 fn hold(
     bytes: &[u8],
@@ -272,9 +260,9 @@ fn hold(
     answers: &mut [u32],
     codes: &mut [u8],
 ) -> u32 {
-    let run = play(bytes, rows, cells, answers);
+    let ran = run::entry::run(bytes, rows, cells, answers);
     call_codes(bytes, codes);
-    judge(run, total, codes, answers, rows, cells)
+    judge(ran, total, codes, answers, rows, cells)
 }
 
 // Lends as much of each slice as the head says.

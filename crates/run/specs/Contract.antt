@@ -13,7 +13,7 @@ use Rattle.walk.specs.Run.{Answer, play-all, start}
 use Rattle.walk.specs.Run as W
 use Rattle.walk.specs.Demand.{At, Row-at, Derivation-order, Distinct, Derives, cut, Extends}
 use Rattle.link.specs.Table.{table-at, Answer-at, Answer-words, Call-at, States, Row-words, Among, Cell-of, Thing-of, Stays}
-use Rattle.run.specs.declared.entry.Ran.{Ran}
+use Rattle.ran.specs.declared.Ran.{Ran}
 
 -- the definition's run of these bytes, in slices of these lengths
 abbrev pub walked : (bytes rows cells answers : List ℕ) → W.Ran

@@ -19,7 +19,7 @@ use Rattle.walk.specs.Run.{Answer, Result, no-result, a-level, a-term, scope-of
 use Rattle.walk.specs.Demand.{At, Row-at, newest, older, All-below, of-none, of-answer, judgment-of}
 use Rattle.walk.specs.Opened.{opened}
 use Rattle.link.specs.Table.{_>>=_, kind-word, part, lower, interval-at, term-by, term-at, scope-at, Holds-thing, cited-at, concluding, read-has, row-at, table-at, Answer-at, this-answer, later-answer, this-call, later-call, Among, Stays}
-use Rattle.run.specs.declared.entry.Ran.{Ran}
+use Rattle.ran.specs.declared.Ran.{Ran}
 use Rattle.run.specs.Contract.{walked, numbers-of, Derived, Runs}
 use Rattle.run.specs.Reads.{nothing, high, low, Row-read, table-read, row-parts, all-below, row-same, row-states, states-same, named, lacks}
 

@@ -15,7 +15,7 @@ use Rattle.syntax.specs.declared.limits.Size.the-variants.{Fits, Refused, Bad, 
 use Rattle.syntax.specs.declared.scan.Scanned.{Scanned}
 use Rattle.syntax.specs.declared.scan.Scanned.the-variants.{Calls, Refused as Unread}
 use Rattle.syntax.specs.Told.{call-at, size-in, scanned}
-use Rattle.run.specs.declared.entry.Ran.{Ran}
+use Rattle.ran.specs.declared.Ran.{Ran}
 use Rattle.run.specs.declared.entry.Turn.{Turn}
 use Rattle.run.specs.Call.{called}
 

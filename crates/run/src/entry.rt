@@ -13,6 +13,7 @@ use ast::words::put;
 use ast::words::succ;
 use producer::state::State;
 use producer::state::Two;
+use ran::Ran;
 use syntax::Scanned;
 use syntax::Size;
 use syntax::scan_run;
@@ -20,15 +21,6 @@ use syntax::size_call;
 
 // The row of a refused call.
 const NO_ROW: u32 = 4294967295;
-
-// What the run answers.
-pub struct Ran {
-    pub number: u32,
-    pub place: u32,
-    pub calls: u32,
-    pub rows: u32,
-    pub cells: u32,
-}
 
 // What a call leaves: the counts, its answer, and where the next one starts.
 pub struct Turn {

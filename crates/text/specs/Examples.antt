@@ -13,10 +13,10 @@ use Rattle.lines.specs.Rows.{some-refs, refs, row-head, row-line}
 use Rattle.lines.specs.Repeats.{with-call, accepted, same, occurs, repeats-after, repeats}
 use Rattle.lines.specs.Calls.{call-row, result, call-result, call-head, call-line}
 use Rattle.text.specs.Listing.{totals, read-listing, refused-listing, listing}
-use Rattle.text.specs.declared.RunAnswer.{RunAnswer}
+use Rattle.ran.specs.declared.Ran.{Ran}
 
 -- The run 100 0 3 0 0 4 3, which checks zero at nat.
-abbrev first : RunAnswer
+abbrev first : Ran
 first = record { number = 0; place = 0; calls = 1; rows = 2; cells = 4 }
 
 abbrev answers : List ℕ

@@ -8,15 +8,15 @@ use Rattle.writer.specs.Text.{Text, each, decimal}
 use Rattle.lines.specs.Rows.{refs, rule, judgment, row-line}
 use Rattle.lines.specs.Calls.{call-line}
 use Rattle.lines.specs.Repeats.{repeats}
-use Rattle.text.specs.declared.RunAnswer.{RunAnswer}
+use Rattle.ran.specs.declared.Ran.{Ran}
 use Rattle.text.specs.declared.Piece.{Piece}
 use Rattle.text.specs.declared.Piece.the-variants.{Listing, CallLine, RowLine, Totals, RowNumber, RuleName, Refs, Judgment}
 
 -- The numbers of rows, of cells and of repeats.
-unfoldable pub totals : RunAnswer → List ℕ → List ℕ → Text
+unfoldable pub totals : Ran → List ℕ → List ℕ → Text
 totals run codes A = decimal (run .rows) ++ bytes " " ++ decimal (run .cells) ++ bytes " " ++ decimal (repeats codes A (run .calls)) ++ bytes "\n"
 
-unfoldable pub read-listing : RunAnswer → List ℕ → List ℕ → List ℕ → List ℕ → Text
+unfoldable pub read-listing : Ran → List ℕ → List ℕ → List ℕ → List ℕ → Text
 read-listing run codes A R C =
     bytes "call code row result deepest\n" ++
     each (call-line codes A C) 0 (run .calls) ++
@@ -25,15 +25,15 @@ read-listing run codes A R C =
     bytes "rows cells repeats\n" ++
     totals run codes A
 
-unfoldable pub refused-listing : RunAnswer → Text
+unfoldable pub refused-listing : Ran → Text
 refused-listing run = bytes "number place\n" ++ decimal (run .number) ++ bytes " " ++ decimal (run .place) ++ bytes "\n"
 
 -- A run that is refused as a whole has another number than 0.
-unfoldable pub listing : RunAnswer → List ℕ → List ℕ → List ℕ → List ℕ → Text
+unfoldable pub listing : Ran → List ℕ → List ℕ → List ℕ → List ℕ → Text
 listing run codes A R C = elim (eqb (run .number) 0) [ true ↦ read-listing run codes A R C | false ↦ refused-listing run ]
 
 -- What can be asked for: the whole, a line (of a call, of a row, the totals), or a field of a row's line.
-unfoldable pub piece : Piece → RunAnswer → List ℕ → List ℕ → List ℕ → List ℕ → Text
+unfoldable pub piece : Piece → Ran → List ℕ → List ℕ → List ℕ → List ℕ → Text
 piece Listing run codes A R C = listing run codes A R C
 piece (CallLine i) run codes A R C = call-line codes A C i
 piece (RowLine i) run codes A R C = row-line R C i

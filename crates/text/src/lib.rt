@@ -10,16 +10,8 @@ ghost use Rattle.text.specs.Listing.{totals, refused-listing, listing, p
 use lines::calls;
 use lines::repeats;
 use lines::rows;
+use ran::Ran;
 use writer::Writer;
-
-// What a run answers of itself.
-pub struct RunAnswer {
-    pub number: u32,
-    pub place: u32,
-    pub calls: u32,
-    pub rows: u32,
-    pub cells: u32,
-}
 
 // A text that can be asked for.
 pub enum Piece {
@@ -40,7 +32,7 @@ pub struct View {
 }
 
 // The totals' line.
-fn totals(writer: Writer, run: RunAnswer, codes: &[u8], answers: &[u32], buf: &mut [u8]) -> Writer
+fn totals(writer: Writer, run: Ran, codes: &[u8], answers: &[u32], buf: &mut [u8]) -> Writer
     ensures { λ r. ⌜ output r (now (buf .exit)) ≡ written (totals run (now (codes .entry)) (now (answers .entry))) (output writer (now (buf .entry))) ⌝ }
 {
     let n = repeats::repeats(codes, answers, run.calls);
@@ -83,7 +75,7 @@ fn row_lines(mut writer: Writer, rows: &[u32], cells: &[u32], n: u32, buf: &mut 
 }
 
 // The listing of a run that is refused as a whole.
-fn refused(writer: Writer, run: RunAnswer, buf: &mut [u8]) -> Writer
+fn refused(writer: Writer, run: Ran, buf: &mut [u8]) -> Writer
     ensures { λ r. ⌜ output r (now (buf .exit)) ≡ written (refused-listing run) (output writer (now (buf .entry))) ⌝ }
 {
     let a = writer.bytes(b"number place\n", buf);
@@ -96,7 +88,7 @@ fn refused(writer: Writer, run: RunAnswer, buf: &mut [u8]) -> Writer
 // The listing of a run.
 fn listing(
     writer: Writer,
-    run: RunAnswer,
+    run: Ran,
     codes: &[u8],
     answers: &[u32],
     rows: &[u32],
@@ -120,7 +112,7 @@ fn listing(
 fn write_piece(
     writer: Writer,
     what: Piece,
-    run: RunAnswer,
+    run: Ran,
     codes: &[u8],
     answers: &[u32],
     rows: &[u32],
@@ -146,7 +138,7 @@ fn write_piece(
 // put stay. The second clause follows from the first, and lets a caller lend the part that is filled with no proof of its own.
 pub fn window(
     what: Piece,
-    run: RunAnswer,
+    run: Ran,
     codes: &[u8],
     answers: &[u32],
     rows: &[u32],

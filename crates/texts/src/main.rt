@@ -1,13 +1,13 @@
 // Prints texts through a window of seven bytes: the specification's worked example, a run that is refused, and a store with a cell
 // of every kind, whole and piece by piece; then how much is left of a short text and of one that nobody could print.
 use libc::STDOUT_FILENO;
+use ran::Ran;
 use text::Piece;
-use text::RunAnswer;
 
 // The window that starts at `from`; whether there is more.
 fn turn(
     what: Piece,
-    run: RunAnswer,
+    run: Ran,
     codes: &[u8],
     answers: &[u32],
     rows: &[u32],
@@ -21,7 +21,7 @@ fn turn(
 }
 
 // A whole text, which has fewer than 4,096 bytes.
-fn show(what: Piece, run: RunAnswer, codes: &[u8], answers: &[u32], rows: &[u32], cells: &[u32]) {
+fn show(what: Piece, run: Ran, codes: &[u8], answers: &[u32], rows: &[u32], cells: &[u32]) {
     let mut from: usize = 0;
     while from < 4096 {
         if !turn(what, run, codes, answers, rows, cells, from) {
@@ -32,7 +32,7 @@ fn show(what: Piece, run: RunAnswer, codes: &[u8], answers: &[u32], rows: &[u32]
 }
 
 // A field, which has no end of line of its own.
-fn show_field(what: Piece, run: RunAnswer, rows: &[u32], cells: &[u32]) {
+fn show_field(what: Piece, run: Ran, rows: &[u32], cells: &[u32]) {
     show(what, run, b"", &[0u32; 0], rows, cells);
     io::write_all(STDOUT_FILENO, b"\n");
 }
@@ -61,7 +61,7 @@ fn nest(cells: &mut [u32]) {
 
 // How many bytes a window of seven at `from` puts of a call's line, and how many are left, counted up to `most`.
 fn measure(answers: &[u32], cells: &[u32], from: usize, most: usize) {
-    let run = RunAnswer {
+    let run = Ran {
         number: 0,
         place: 0,
         calls: 1,
@@ -115,7 +115,7 @@ fn left() {
 
 // The run 100 0 3 0 0 4 3.
 fn first() {
-    let run = RunAnswer {
+    let run = Ran {
         number: 0,
         place: 0,
         calls: 1,
@@ -212,7 +212,7 @@ fn first() {
 
 // A run that ends early.
 fn early() {
-    let run = RunAnswer {
+    let run = Ran {
         number: 3,
         place: 6,
         calls: 0,
@@ -224,7 +224,7 @@ fn early() {
 
 // Every kind of cell; a row with ten cited rows, and one that names no rule; calls of each kind, one of which repeats another.
 fn every() {
-    let run = RunAnswer {
+    let run = Ran {
         number: 0,
         place: 0,
         calls: 6,

@@ -20,7 +20,7 @@ use Rattle.link.specs.Asked.{ask-all, four-words, written-over}
 use Rattle.link.specs.Asked as L
 use Rattle.link.specs.Table.{Answer-at, this-answer, later-answer, Answer-words, Call-at, this-call, later-call, States}
 use Rattle.link.specs.Words.{Asked-words, answers-fit, words}
-use Rattle.run.specs.declared.entry.Ran.{Ran}
+use Rattle.ran.specs.declared.Ran.{Ran}
 use Rattle.run.specs.Run.{Ended, end-run, run-of}
 use Rattle.run.specs.Contract.{walked, numbers-of, Derived, Runs}
 use Rattle.run.specs.Same.Runs.{ended, run-is}
