@@ -15,11 +15,12 @@ use Rattle.quotes.specs.Quotes.{cell-word, argument, node-as, lower, quote}
 use Rattle.quotes.specs.Judgments.{judgment-as}
 use Rattle.lines.specs.Rows.{reference, some-refs, refs, row-head, row-line}
 use Rattle.lines.specs.Calls.{call-row, result, call-result, call-head, call-line, answer-word, code}
+use Rattle.syntax.specs.Told.{code-number}
 use Rattle.walk.specs.State.{Row}
 use Rattle.walk.specs.Reader.{Code}
 use Rattle.walk.specs.Run.{Result, Answer}
 use lib.Dec.{eqb·suc-zero}
-use Rattle.listed.specs.Said.{spaced, all-texts, interval-text, quote-text, context-text, argument-text, judgment-text, Part-in, Interval-cell, Quote-cell, Context-cell, Argument-word, word-number, word-term, word-interval, word-context, Arguments-in, no-more, and-then, commas, refs-text, row-text, code-number, result-text, accepted-row, call-text, Result-in, of-context, of-universe, of-infer, of-check, of-normalise, of-equal, Ended, accepted, refused, Call-in, Refs-in, no-refs, and-ref, Row-in, cell-0, cell-1, cell-dim, cell-neg, cell-meet, cell-join, cell-u, cell-v, cell-nat, cell-zero, cell-pi, cell-lam, cell-app, cell-path, cell-plam, cell-papp, cell-sigma, cell-pair, cell-fst, cell-snd, cell-nil, cell-cons}
+use Rattle.listed.specs.Said.{spaced, all-texts, interval-text, quote-text, context-text, argument-text, judgment-text, Part-in, Interval-cell, Quote-cell, Context-cell, Argument-word, word-number, word-term, word-interval, word-context, Arguments-in, no-more, and-then, commas, refs-text, row-text, result-text, accepted-row, call-text, Result-in, of-context, of-universe, of-infer, of-check, of-normalise, of-equal, Ended, accepted, refused, Call-in, Refs-in, no-refs, and-ref, Row-in, cell-0, cell-1, cell-dim, cell-neg, cell-meet, cell-join, cell-u, cell-v, cell-nat, cell-zero, cell-pi, cell-lam, cell-app, cell-path, cell-plam, cell-papp, cell-sigma, cell-pair, cell-fst, cell-snd, cell-nil, cell-cons}
 use Rattle.quotes.specs.Quoted.{lower-yes, quote-node}
 
 -- Absent parts leave nothing before the end.

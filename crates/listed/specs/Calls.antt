@@ -2,7 +2,7 @@
 -- has a judgment, and a refused one has none. So the calls' lines and repeats are the walk's. Assumes nothing.
 use Prim.Native.Nat.{ℕ, zero, suc, _+_, _<_}
 use mathlib.Core.Path.{_≡_, refl, subst}
-use mathlib.Core.List.{List, [], _∷_, map}
+use mathlib.Core.List.{List, [], _∷_}
 use mathlib.Core.Option.{some}
 use native.Mathlib.Omega.{arith}
 use native.Mathlib.Nat.{add-zero}
@@ -18,10 +18,12 @@ use Rattle.walk.specs.Demand.{of-none, of-level, of-answer, judgment-of, Stated
 use Rattle.link.specs.Table.{quote-at, Result-word, Answer-words, Answer-at, this-answer, later-answer}
 use Rattle.writer.specs.Text.{each}
 use Rattle.lines.specs.Calls.{code, call-line}
-use Rattle.listed.specs.Said.{Quote-cell, code-number, Result-in, of-context, of-universe, of-infer, of-check, of-normalise, of-equal, Ended, accepted, Call-in, Calls-in, no-calls, and-call}
+use Rattle.listed.specs.Said.{Quote-cell, Result-in, of-context, of-universe, of-infer, of-check, of-normalise, of-equal, Ended, accepted, Call-in, Calls-in, no-calls, and-call}
 use Rattle.listed.specs.Said as S
 use Rattle.listed.specs.Agrees.{call-said}
 use Rattle.listed.specs.Listed.{call-lines}
+use Rattle.syntax.specs.Told.{code-number}
+use Rattle.syntax.specs.Codes.{codes-of}
 use Rattle.syntax.specs.Kinds.{no-some}
 use Rattle.listed.specs.Cells.{lowered, quote-cell}
 use Rattle.listed.specs.Rows.{next}
@@ -99,10 +101,6 @@ module _ (n : ℕ) (C : List ℕ) (x : ℕ) where
       go (suc m) e = rw (b .bare (λ z. omega arith)) S.refused
 
 -- all calls
-
--- The calls' codes, as bytes.
-abbrev pub codes-of : List Call → List ℕ
-codes-of calls = map (λ (call : Call). code-number (call .code)) calls
 
 module _ (n : ℕ) (codes A C : List ℕ) where
   call-in : {rows : List Row} (i : ℕ) (call : Call) (a : Answer) → (a .number ≡ 0 → Stated rows call a) → Bare a → code codes i ≡ code-number (call .code) → Answer-words n C A i a → Call-in codes A C i (call .code) a

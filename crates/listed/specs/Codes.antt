@@ -8,30 +8,15 @@ use native.Mathlib.Omega.{arith}
 use lib.Dec.{ltb}
 use lib.ListN.{length, drop}
 use lib.Seq.{sets}
-use Rattle.walk.specs.Reader.{Read, got, bad, Code, c-context, c-universe, c-infer, c-check, c-normalise, c-equal, Call, read-run}
+use Rattle.walk.specs.Reader.{Read, got, bad, Call, read-run}
 use Rattle.walk.specs.Run.{Ran, play-all, start, refused-run, played, run-read, run}
-use Rattle.syntax.specs.Told.{code-number as code-byte}
-use Rattle.syntax.specs.Codes.{codes-of as bytes-of, codes-in, unless-over, call-codes}
+use Rattle.syntax.specs.Codes.{codes-of, codes-in, unless-over, call-codes}
 use Rattle.link.specs.Lists.{written}
 use Rattle.ran.specs.declared.Ran.{Ran as Numbers}
 use Rattle.run.specs.Contract.{walked, Runs}
-use Rattle.listed.specs.Said.{code-number}
 use Rattle.text.specs.Listing.{listing}
 use Rattle.listed.specs.Listed.{listed}
-use Rattle.listed.specs.Calls.{codes-of}
 use Rattle.listed.specs.Theorem.{Codes-of, codes-many, codes-first, listing-is}
-
-same-code : (c : Code) → code-byte c ≡ code-number c
-same-code c-context = refl
-same-code c-universe = refl
-same-code c-infer = refl
-same-code c-check = refl
-same-code c-normalise = refl
-same-code c-equal = refl
-
-same-codes : (calls : List Call) → bytes-of calls ≡ codes-of calls
-same-codes [] = refl
-same-codes (call ∷ calls) = rw (same-code (call .code), same-codes calls)
 
 -- a run is refused as a whole, and has no calls; or its calls are those that are read
 data Coded (bytes : List ℕ) (calls : List Call) : Type 0 where
@@ -51,7 +36,7 @@ module _ (bytes rows cells answers : List ℕ) where
       go true b q r e = no-calls refl
       go false true q r e = no-calls refl
       go false false q (bad place) e = no-calls refl
-      go false false q (got (limit, calls) rest end) e = room limit calls (ltb (length answers) (4 * length calls)) (rw (q, e) (same-codes calls))
+      go false false q (got (limit, calls) rest end) e = room limit calls (ltb (length answers) (4 * length calls)) (rw (q, e))
 
   stored : (codes : List ℕ) → length (walked bytes rows cells answers .calls) ≤ length codes → Codes-of (walked bytes rows cells answers .calls) (sets codes 0 (call-codes bytes))
   stored codes l = go coded

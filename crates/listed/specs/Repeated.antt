@@ -9,9 +9,10 @@ use lib.ListN.{length, getD}
 use mathlib.Core.Option.{some, none}
 use Rattle.walk.specs.Reader.{Call, Code, Code-discrete, codes, c-context, c-universe, c-infer, c-check, c-normalise, c-equal}
 use Rattle.walk.specs.Run as R
+use Rattle.syntax.specs.Told.{code-number}
 use Rattle.lines.specs.Calls.{code}
 use Rattle.lines.specs.Repeats.{Accepted, call, with-call, accepted, same, occurs, repeats-after, repeats}
-use Rattle.listed.specs.Said.{code-number, Calls-in, no-calls, and-call}
+use Rattle.listed.specs.Said.{Calls-in, no-calls, and-call}
 use Rattle.lines.specs.Counting.{with-yes, with-no, occurs-yes, occurs-no}
 
 abbrev words : R.Accepted → Accepted

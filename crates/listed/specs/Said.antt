@@ -13,6 +13,7 @@ use mathlib.Core.Bool.{true, false}
 use lib.Dec.{eqb}
 use lib.ListN.{length}
 use Rattle.rules.specs.Names.{bytes, rule-name, judgment-name}
+use Rattle.syntax.specs.Told.{code-number}
 use Rattle.writer.specs.Text.{Text, decimal}
 use Rattle.quotes.specs.Quotes.{cell-word}
 use Rattle.quotes.specs.Judgments.{row-word}
@@ -152,15 +153,6 @@ pub record Row-in (R C : List ℕ) (i : ℕ) (r : Row) : Type 0 where
   pub arguments : Arguments-in R C i 0 (arguments (r .judgment))
 
 -- calls
-
--- A code of a call as its byte.
-abbrev pub code-number : Code → ℕ
-code-number c-context = 0
-code-number c-universe = 1
-code-number c-infer = 2
-code-number c-check = 3
-code-number c-normalise = 4
-code-number c-equal = 5
 
 -- What a call's line shows of its result: a level, a term by quote, or -.
 unfoldable pub result-text : Result → Text

@@ -19,12 +19,13 @@ use Rattle.lines.specs.Calls.{code, call-line}
 use Rattle.lines.specs.Repeats.{repeats}
 use Rattle.lines.specs.Rows.{row-line}
 use Rattle.text.specs.Listing.{totals, read-listing, refused-listing, listing}
+use Rattle.syntax.specs.Codes.{codes-of}
 use Rattle.listed.specs.Said.{Calls-in}
 use Rattle.listed.specs.Repeated.{repeats-said}
 use Rattle.listed.specs.Listed.{call-lines, row-lines, total-line, listed-read, listed-refused, listed}
 use Rattle.listed.specs.Cells.{some-is}
 use Rattle.listed.specs.Rows.{rows-said}
-use Rattle.listed.specs.Calls.{All-bare, no-answer, all-bare, codes-of, calls-in, calls-said}
+use Rattle.listed.specs.Calls.{All-bare, no-answer, all-bare, calls-in, calls-said}
 
 -- The codes that the listing is given are those of the calls; what stands past them does not matter.
 pub record Codes-of (calls : List Call) (codes : List ℕ) : Type 0 where
