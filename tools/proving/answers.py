@@ -14,10 +14,11 @@ UNFOLD = {
     'expose': 'retyped',
     'infer': 'new-infer',
     'find': 'find-compound',
+    'reduce': 'fst-beta snd-beta',
     'path': 'path-ends',
     'plam': 'plam-ends',
     'pair': 'pair-typed',
-    'along': 'at-ends',
+    'line': 'at-ends',
     'equal': 'equal-normal',
     'deeper': 'deeper-of',
     'same-look': 'all-eq',
@@ -103,7 +104,7 @@ HAND = {
     'put-again': {'first': ['put-again _ _ _ _']},
     'put-third': {'first': ['put-all _ _ _ _ _ _ _ _ _ _']},
     'put-row': {'first': ['put-thirds _ _ _ _ _ _ _ _ _ _ _ _ _ _ _ _ _ _ _ _ _ _ _ _ _ _']},
-    'rounds': {
+    'turns': {
         'Inv-loop': '(i ≤ 32) × (length rows ≡ length rows₀) × (length cells ≡ length cells₀) × (rounds 32 (callees left) d g t ty t evidence (machine rows₀ cells₀ s₀) ≡ rounds (32 - i) (callees left) d g t ty current row (machine rows cells s))',
         'μ-loop': '32 - i',
         'turn': 'law.rounds-turn', 'end': 'law.rounds-over', 'inv': ' .3',

@@ -1,7 +1,7 @@
 // Equality: root reductions, normal forms, equal terms. With typing.rt these form one cycle of calls.
 ghost use mathlib.Core.Path.{_≡_};
 ghost use Rattle.producer.specs.Machine.{machine, end, end-2, end-step, end-round};
-ghost use Rattle.producer.specs.Equality.{beta, beta-row, at-end, pbeta, reduce-papp, fst-beta, snd-beta, round, rounds};
+ghost use Rattle.producer.specs.Equality.{beta, beta-row, at-end, pbeta, reduce-papp, round, rounds};
 ghost use Rattle.producer.specs.Calls.{callees};
 use crate::codes;
 use crate::rows::cite1;
@@ -53,21 +53,48 @@ impl State {
                 return Reduced::Whole(s0);
             }
             kinds::PAPP => {
-                return s0.along(down, rows, cells, d, g, t, cell.a, cell.b);
+                return s0.line(down, rows, cells, d, g, t, cell.a, cell.b);
             }
             kinds::FST => {
+                // The first part of a pair, at its type.
                 let shape = shape_of(cells, cell.a);
-                if let Shape::Pair(_, a, _) = shape {
-                    return s0.fst_beta(down, rows, cells, d, g, t, cell.a, a);
-                }
-                return Reduced::Whole(s0);
+                let Shape::Pair(_, a, _) = shape else {
+                    return Reduced::Whole(s0);
+                };
+                let q1 = s0.sigma(down, rows, cells, d, g, cell.a);
+                let Function::Of(s1, ta, _, x) = q1 else {
+                    return q1.as_reduced();
+                };
+                let q2 = s1.check(down, rows, cells, d, g, a, ta);
+                let Got::Is(s2, typed) = q2 else {
+                    return q2.as_reduced();
+                };
+                let refs = cite2(x, typed);
+                let q3 = s2.emit_eq(rows, cells, codes::EQ_FST_BETA, refs, d, g, t, a, ta);
+                let Got::Is(s3, row) = q3 else {
+                    return q3.as_reduced();
+                };
+                return Reduced::Step(s3, a, ta, row);
             }
             kinds::SND => {
+                // The second, at its type with the first projection put in.
                 let shape = shape_of(cells, cell.a);
-                if let Shape::Pair(_, _, b) = shape {
-                    return s0.snd_beta(down, rows, cells, d, g, t, cell.a, b);
-                }
-                return Reduced::Whole(s0);
+                let Shape::Pair(_, _, b) = shape else {
+                    return Reduced::Whole(s0);
+                };
+                let q1 = s0.sigma(down, rows, cells, d, g, cell.a);
+                let Function::Of(s1, _, tb, x) = q1 else {
+                    return q1.as_reduced();
+                };
+                let q2 = s1.prepare(down, rows, cells, kinds::FST, cell.a, 0);
+                let Got::Is(s2, first) = q2 else {
+                    return q2.as_reduced();
+                };
+                let q3 = s2.transform(down, rows, cells, tb, Op::Subst(0, first));
+                let Two::Pair(s3, ty, y) = q3 else {
+                    return q3.as_reduced();
+                };
+                return s3.step(down, rows, cells, d, g, t, b, ty, x, y, codes::EQ_SND_BETA);
             }
             _ => {}
         }
@@ -152,7 +179,7 @@ impl State {
     }
 
     // A papp: the path `p` along the interval `r`.
-    pub fn along(
+    pub fn line(
         self,
         left: u32,
         rows: &mut [u32],
@@ -186,10 +213,10 @@ impl State {
         let kind = cell.kind;
         match kind {
             kinds::I0 => {
-                return s3.at_end(left, rows, cells, d, g, t, b, ty, x, y, codes::EQ_P0);
+                return s3.step(left, rows, cells, d, g, t, b, ty, x, y, codes::EQ_P0);
             }
             kinds::I1 => {
-                return s3.at_end(left, rows, cells, d, g, t, c, ty, x, y, codes::EQ_P1);
+                return s3.step(left, rows, cells, d, g, t, c, ty, x, y, codes::EQ_P1);
             }
             _ => {}
         }
@@ -234,7 +261,7 @@ impl State {
     }
 
     // `t` goes to `out`, of a type that its parts have given by the rows `x` and `y`: a side of a path's type, the second part of a pair.
-    pub fn at_end(
+    pub fn step(
         self,
         left: u32,
         rows: &mut [u32],
@@ -260,65 +287,6 @@ impl State {
             return q2.as_reduced();
         };
         Reduced::Step(s2, out, ty, row)
-    }
-
-    // The first projection of the pair `p`, whose first part is `a`.
-    pub fn fst_beta(
-        self,
-        left: u32,
-        rows: &mut [u32],
-        cells: &mut [u32],
-        d: u32,
-        g: u32,
-        t: u32,
-        p: u32,
-        a: u32,
-    ) -> Reduced
-        ensures { λ u. ⌜ end-step u (now (rows .exit)) (now (cells .exit)) ≡ fst-beta (callees left) d g t p a (machine (now (rows .entry)) (now (cells .entry)) self) ⌝ }
-    {
-        let q1 = self.subject(left, rows, cells, d, g, p);
-        let Function::Of(s1, ta, _, x) = q1 else {
-            return q1.as_reduced();
-        };
-        let q2 = s1.check(left, rows, cells, d, g, a, ta);
-        let Got::Is(s2, typed) = q2 else {
-            return q2.as_reduced();
-        };
-        let refs = cite2(x, typed);
-        let q3 = s2.emit_eq(rows, cells, codes::EQ_FST_BETA, refs, d, g, t, a, ta);
-        let Got::Is(s3, row) = q3 else {
-            return q3.as_reduced();
-        };
-        Reduced::Step(s3, a, ta, row)
-    }
-
-    // The second projection of the pair `p`, whose second part is `b`.
-    pub fn snd_beta(
-        self,
-        left: u32,
-        rows: &mut [u32],
-        cells: &mut [u32],
-        d: u32,
-        g: u32,
-        t: u32,
-        p: u32,
-        b: u32,
-    ) -> Reduced
-        ensures { λ u. ⌜ end-step u (now (rows .exit)) (now (cells .exit)) ≡ snd-beta (callees left) d g t p b (machine (now (rows .entry)) (now (cells .entry)) self) ⌝ }
-    {
-        let q1 = self.subject(left, rows, cells, d, g, p);
-        let Function::Of(s1, _, tb, x) = q1 else {
-            return q1.as_reduced();
-        };
-        let q2 = s1.prepare(left, rows, cells, kinds::FST, p, 0);
-        let Got::Is(s2, first) = q2 else {
-            return q2.as_reduced();
-        };
-        let q3 = s2.transform(left, rows, cells, tb, Op::Subst(0, first));
-        let Two::Pair(s3, ty, y) = q3 else {
-            return q3.as_reduced();
-        };
-        s3.at_end(left, rows, cells, d, g, t, b, ty, x, y, codes::EQ_SND_BETA)
     }
 
     // The term with its root reduced while that goes, and the row of the equation.
@@ -348,11 +316,11 @@ impl State {
         let Got::Is(s2, evidence) = q2 else {
             return q2.as_two();
         };
-        s2.rounds(down, rows, cells, d, g, t, ty, evidence)
+        s2.turns(down, rows, cells, d, g, t, ty, evidence)
     }
 
     // At most 32 root reductions of `t`, which is equal to itself by the row `evidence`; refuses (15) one more.
-    pub fn rounds(
+    pub fn turns(
         self,
         left: u32,
         rows: &mut [u32],
@@ -370,7 +338,7 @@ impl State {
         let mut row = evidence;
         let mut i = 0u32;
         while i < 32 {
-            match s.round(left, rows, cells, d, g, t, ty, current, row) {
+            match s.turn(left, rows, cells, d, g, t, ty, current, row) {
                 Round::Next(s1, term, x) => {
                     s = s1;
                     current = term;
@@ -393,7 +361,7 @@ impl State {
     }
 
     // One root reduction, at the type wanted; refuses (14) one at a type with another quote.
-    pub fn round(
+    pub fn turn(
         self,
         left: u32,
         rows: &mut [u32],

@@ -169,14 +169,14 @@ impl State {
         }
         if s1.conversions < 32 {
             let s2 = s1.converting(s1.conversions + 1);
-            let q2 = s2.exposed(down, rows, cells, d, g, t, ty, row);
+            let q2 = s2.sort(down, rows, cells, d, g, t, ty, row);
             return ended_two(q2);
         }
         Two::Refused(s1, refusals::CONVERSIONS)
     }
 
     // The level of a type that has its universe only once exposed.
-    pub fn exposed(
+    pub fn sort(
         self,
         left: u32,
         rows: &mut [u32],
@@ -227,14 +227,14 @@ impl State {
         }
         if s1.conversions < 32 {
             let s2 = s1.converting(s1.conversions + 1);
-            let q2 = s2.convert(down, rows, cells, d, g, t, actual, expected, row);
+            let q2 = s2.conv(down, rows, cells, d, g, t, actual, expected, row);
             return ended_got(q2);
         }
         Got::Refused(s1, refusals::CONVERSIONS)
     }
 
     // A term of the one type has the other too; refuses (12) where their levels differ.
-    pub fn convert(
+    pub fn conv(
         self,
         left: u32,
         rows: &mut [u32],
@@ -417,7 +417,7 @@ impl State {
                 return self.atom(left, rows, cells, d, g, kinds::NAT, 0, codes::TYPE_ZERO);
             }
             kinds::PI => {
-                return self.binder(left, rows, cells, d, g, cell.a, cell.b, codes::TYPE_PI);
+                return self.pi(left, rows, cells, d, g, cell.a, cell.b, codes::TYPE_PI);
             }
             kinds::LAM => {
                 return self.lam(left, rows, cells, d, g, cell.a, cell.b);
@@ -432,7 +432,7 @@ impl State {
                 return self.plam(left, rows, cells, d, g, cell.a, cell.b);
             }
             kinds::SIGMA => {
-                return self.binder(left, rows, cells, d, g, cell.a, cell.b, codes::TYPE_SIGMA);
+                return self.pi(left, rows, cells, d, g, cell.a, cell.b, codes::TYPE_SIGMA);
             }
             kinds::PAIR => {
                 return self.pair(left, rows, cells, d, g, cell.a, cell.b, cell.c);
@@ -499,7 +499,7 @@ impl State {
     }
 
     // Two types, the second under a variable of the first, as in a pi or a sigma: this lies in the greater of their universes.
-    pub fn binder(
+    pub fn pi(
         self,
         left: u32,
         rows: &mut [u32],
@@ -773,7 +773,7 @@ impl State {
     }
 
     // The subject of a projection: its type taken apart as a sigma, and its row; refuses (21) another.
-    pub fn subject(
+    pub fn sigma(
         self,
         left: u32,
         rows: &mut [u32],
@@ -869,7 +869,7 @@ impl State {
     ) -> Inferred
         ensures { λ r. ⌜ end-found r (now (rows .exit)) (now (cells .exit)) ≡ find-fst (callees left) d g p (machine (now (rows .entry)) (now (cells .entry)) self) ⌝ }
     {
-        let q1 = self.subject(left, rows, cells, d, g, p);
+        let q1 = self.sigma(left, rows, cells, d, g, p);
         let Function::Of(s1, ta, _, x) = q1 else {
             return q1.as_inferred();
         };
@@ -893,7 +893,7 @@ impl State {
     ) -> Inferred
         ensures { λ r. ⌜ end-found r (now (rows .exit)) (now (cells .exit)) ≡ find-snd (callees left) d g p (machine (now (rows .entry)) (now (cells .entry)) self) ⌝ }
     {
-        let q1 = self.subject(left, rows, cells, d, g, p);
+        let q1 = self.sigma(left, rows, cells, d, g, p);
         let Function::Of(s1, _, tb, x) = q1 else {
             return q1.as_inferred();
         };
