@@ -1,9 +1,9 @@
 """What the proofs of single functions need beyond the rules: names to unfold, loop invariants, answers by hand."""
 from language import TERMS
 
-# Further names to unfold.
+# Further names to unfold, by the function's name, or by CRATE/NAME where two crates have one name.
 UNFOLD = {
-    'step': 'turned-by',
+    'run/step': 'turned-by',
     'play-run': 'run-by read-run',
     'link-cell': 'linked cell-end',
     'link-row': 'linked row-end',

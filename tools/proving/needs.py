@@ -28,7 +28,7 @@ def to_unfold(crate, name, within=''):
         out.append(called[0] + '-body')
     if 'machine' in words:
         out = [w for w in out if w not in crate.steps and (w != 'intern' or name == 'intern')] + ['steps']
-    out += UNFOLD.get(name, '').split()
+    out += UNFOLD.get('%s/%s' % (crate.name, name), UNFOLD.get(name, '')).split()
     return sorted(set(out), key=out.index)
 
 def unfolding(names, indent=''):

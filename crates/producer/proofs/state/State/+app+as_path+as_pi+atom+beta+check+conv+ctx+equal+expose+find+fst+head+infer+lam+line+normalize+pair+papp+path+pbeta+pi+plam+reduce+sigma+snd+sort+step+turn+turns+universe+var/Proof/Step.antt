@@ -36,7 +36,7 @@ module _ (t : ℕ) where
   same-length-2 c = omega (arith, c .before .before .before .before .before .before .before .check .kept)
 
   returns : lts.Need-returns (claims t) (step-at t) step.Post
-  unfolding at-end steps turned-by
+  unfolding at-end steps
   returns c = rw (← c .before .before .before .before .before .before .before .check .ensures, c .as-reduced .ensures, c .before .enum-told .given .1)
 
   cite3-requires : lts.Need-cite3-requires (claims t) (step-at t) step.Post
@@ -61,7 +61,7 @@ module _ (t : ℕ) where
   same-length-4 c = omega (arith, c .before .before .before .before .before .before .before .before .before .before .before .before .before .before .before .before .check .kept, c .before .before .before .before .before .emit-eq .kept)
 
   returns-2 : lts.Need-returns-2 (claims t) (step-at t) step.Post
-  unfolding at-end steps turned-by
+  unfolding at-end steps
   returns-2 c = rw (← c .before .before .before .before .before .before .before .before .before .before .before .before .before .before .before .before .check .ensures, c .before .before .before .before .before .before .before .before .before .before .q1 .given .1, ← c .before .before .before .before .before .before .before .before .cite3 .ensures, ← c .before .before .before .before .before .emit-eq .ensures, c .as-reduced2 .ensures, c .before .enum-told2 .given .1)
 
   same-length-5 : lts.Need-same-length-5 (claims t) (step-at t) step.Post
@@ -71,7 +71,7 @@ module _ (t : ℕ) where
   same-length-6 c = omega (arith, c .before .before .before .before .before .before .before .before .before .before .before .before .before .before .before .before .check .kept, c .before .before .before .before .before .emit-eq .kept)
 
   returns-3 : lts.Need-returns-3 (claims t) (step-at t) step.Post
-  unfolding at-end steps turned-by
+  unfolding at-end steps
   returns-3 c = rw (← c .before .before .before .before .before .before .before .before .before .before .before .before .before .before .before .before .check .ensures, c .before .before .before .before .before .before .before .before .before .before .q1 .given .1, ← c .before .before .before .before .before .before .before .before .cite3 .ensures, ← c .before .before .before .before .before .emit-eq .ensures, c .before .q2 .given .1)
 
   pub part : {M : Type 1} → lts.Closed (claims t) (step-at t) step.Post M
