@@ -7,7 +7,7 @@ use crate::term::{app, fst, lam, pair, papp, path, pi, plam, sigma, snd, Interva
 use Interval::{Dim, I0, I1};
 use Term::{Nat, Zero, U, V};
 
-/// The bytes of sigma, pair, fst and snd: runs without pairs have none of them.
+/// The bytes of sigma, pair, fst and snd: no run without pairs is made of them.
 pub const KINDS: [u8; 4] = [11, 12, 13, 14];
 
 /// A pair's two types, the second under a variable, and its parts.
