@@ -14,11 +14,15 @@ UNFOLD = {
     'expose': 'retyped',
     'infer': 'new-infer',
     'find': 'find-compound',
-    'reduce': 'fst-beta snd-beta',
+    'app': 'as-pi',
+    'papp': 'as-path',
+    'fst': 'as-sigma',
+    'snd': 'as-sigma',
+    'reduce': 'fst-beta snd-beta as-sigma',
     'path': 'path-ends',
     'plam': 'plam-ends',
     'pair': 'pair-typed',
-    'line': 'at-ends',
+    'line': 'at-ends as-path',
     'equal': 'equal-normal',
     'deeper': 'deeper-of',
     'same-look': 'all-eq',
@@ -28,7 +32,7 @@ UNFOLD = {
 UNLIKE = ['law.not-' + kind.word for kind in TERMS if kind.taken]
 
 # Calls whose `ensures` says what an answer is, and not what a step of the definition is.
-FORWARD = ('as-got', 'as-function', 'as-four', 'as-inferred', 'as-reduced', 'as-two', 'as-round')
+FORWARD = ('as-got', 'as-four', 'as-inferred', 'as-reduced', 'as-two', 'as-round')
 
 # Calls whose answer is a value that the goal names: rewritten from left to right.
 VALUES = ('answered', 'refused', 'no-run')

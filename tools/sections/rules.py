@@ -90,6 +90,6 @@ pub const NODES: u32 = {len(nodes)};
     ])
 
 
-@section('crates/rules/specs/Concludes.antt', 'sorts of judgments')
+@section('crates/rules/specs/Sorts.antt', 'sorts of judgments')
 def _():
     return ['sorted %s = refl' % judgment(j) for j in JUDGMENTS]

@@ -5,6 +5,7 @@ from .walk import reading, size_after
 
 SPECS, PROOFS = 'crates/syntax/specs/', 'crates/syntax/proofs/'
 KINDS, PARTS, NODES, ENDS, FUEL = (SPECS + f + '.antt' for f in ('Kinds', 'Parts', 'Nodes', 'Ends', 'Fuel'))
+BYTES = 'crates/walk/specs/Bytes.antt'
 OVER, MEASURE = PROOFS + 'Over.antt', PROOFS + 'Measure.antt'
 
 
@@ -23,9 +24,9 @@ PART = {'number': 'index', 'term': 'term', 'interval': 'interval'}
 for_both(PARTS, 'parts of an %s kind',
          lambda k, sort: '%sparts k-%s = %s[]' % (i(sort), k.tag, ''.join(PART[p.sort] + ' ∷ ' for p in k.parts)))
 
-# ---- Kinds: the byte of each
+# ---- Bytes of walk, and Kinds: the byte of each
 
-for_both(KINDS, 'bytes of %s kinds', lambda k, sort: '%skind-byte k-%s = %d' % (i(sort), k.tag, k.byte))
+for_both(BYTES, 'bytes of %s kinds', lambda k, sort: '%skind-byte k-%s = %d' % (i(sort), k.tag, k.byte))
 
 
 def table(bytes_):
@@ -39,8 +40,8 @@ def table(bytes_):
     return 'table = ' + entries(bytes_, 0)
 
 
-section(KINDS, 'table of interval kinds')(lambda: [table([k.byte for k in INTERVALS])])
-section(KINDS, 'table of term kinds')(lambda: [table([k.byte for k in TERMS])])
+section(BYTES, 'table of interval kinds')(lambda: [table([k.byte for k in INTERVALS])])
+section(BYTES, 'table of term kinds')(lambda: [table([k.byte for k in TERMS])])
 section(KINDS, 'table of codes')(lambda: [table([c.code for c in CALLS])])
 
 # ---- Nodes: the reader of what follows a kind's byte
@@ -162,7 +163,7 @@ use mathlib.Core.Path.{{refl}}
 use borrow.Author.Needs.{{needs}}
 use Rattle.walk.specs.Reader.{{{', '.join('k-' + k.tag for k in kinds)}, {i(sort)}kinds}}
 use Rattle.syntax.specs.Parts.{{{i(sort)}parts, of-kind, part, so-many}}
-use Rattle.syntax.specs.Kinds.{{{i(sort)}kind-byte, {i(sort)}kind-is}}
+use Rattle.walk.specs.Bytes.{{{i(sort)}kind-byte, {i(sort)}kind-is}}
 use Rattle.syntax.proofs.Tables.{{listed, none-such}}
 use Rattle.syntax.proofs.parts.of_{sort}.Statement.{{statement}}
 use Rattle.syntax.proofs.parts.of_{sort}.Tie as tie

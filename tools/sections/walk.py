@@ -124,32 +124,6 @@ in-order = refl
 '''
 
 
-@whole(SPECS + 'Concludes.antt')
-def _():
-    clauses = '\n'.join('shape R.by·%s = (refl, lit≤ tt)' % antt_name(r) for r in RULES)
-    return f'''-- What a rule concludes is of the kind that the table of rules has, from at most ten premises.
--- {NOTE}
-use Prim.Native.Nat.{{ℕ, _≤_}}
-use mathlib.Core.Path.{{_≡_, refl}}
-use mathlib.Core.List.{{List}}
-use lib.Dec.{{lit≤}}
-use lib.ListN.{{length}}
-use Rattle.walk.specs.Judgment.{{Judgment, kind}}
-use Rattle.walk.specs.Rule.{{kind-of}}
-use Rattle.walk.specs.Rules as R
-
-shape : {{n : ℕ}} {{js : List Judgment}} {{j : Judgment}} → R.Follows n js j → (kind j ≡ kind-of n) × (length js ≤ 10)
-unfolding kind-of
-{clauses}
-
-pub concludes : {{n : ℕ}} {{js : List Judgment}} {{j : Judgment}} → R.Follows n js j → kind j ≡ kind-of n
-concludes f = shape f .0
-
-pub few-premises : {{n : ℕ}} {{js : List Judgment}} {{j : Judgment}} → R.Follows n js j → length js ≤ 10
-few-premises f = shape f .1
-'''
-
-
 # ---- Reader
 
 @section(SPECS + 'Walk/Typing.antt', 'view')

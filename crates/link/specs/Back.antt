@@ -15,7 +15,7 @@ use Rattle.walk.specs.Syntax.{Interval, Term, Context, Quote, Quotes, quote, qu
 use Rattle.walk.specs.Judgment.{Judgment, kind, number, arguments}
 use Rattle.walk.specs.Rules.{Follows}
 use Rattle.walk.specs.Rule.{kind-of}
-use Rattle.walk.specs.Concludes.{concludes, few-premises}
+use Rattle.schemas.specs.Concludes.{concludes, few-premises}
 use Rattle.walk.specs.Reader.{kinds, ikinds}
 use Rattle.walk.specs.State.{State, Row, Thing, term, interval, context, inference, key}
 use Rattle.walk.specs.Demand.{Row-at, newest, older, Cites, none-cited, _also_, Row-follows, Derivation-order}

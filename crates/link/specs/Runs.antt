@@ -5,7 +5,7 @@ use mathlib.Core.Path.{_≡_, refl, sym, subst, ap}
 use mathlib.Core.List.{List, [], _∷_}
 use native.Mathlib.Omega.{arith}
 use lib.ListN.{length}
-use Rattle.producer.specs.declared.state.State.{State as Counts}
+use Rattle.producer.specs.declared.State.{State as Counts}
 use Rattle.producer.specs.Machine.{Machine, Result}
 use Rattle.producer.specs.Calls.{callees}
 use Rattle.walk.specs.Syntax.{Term, Context, Nil}

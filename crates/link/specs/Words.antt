@@ -9,7 +9,7 @@ use native.Mathlib.Omega.{arith}
 use native.Mathlib.Nat.{suc-mul, mul-div-le}
 use lib.ListN.{length, getD, length-append, length-drop}
 use lib.Dec.{ltb, nltb→le}
-use Rattle.producer.specs.declared.state.State.{State as Counts}
+use Rattle.producer.specs.declared.State.{State as Counts}
 use Rattle.producer.specs.Machine.{Machine}
 use Rattle.walk.specs.Refusal as Refusal
 use Rattle.walk.specs.State.{State, Row, Thing}

@@ -9,7 +9,7 @@ use Rattle.walk.specs.Rule.{kind-of}
 use Rattle.walk.specs.Judgment.{Judgment, kind, ctx, dshiftctx, lookup, lt, le, max, interval, ishift, isubst, shift, subst, dshift, dsubst, has, eq, Argument, arguments}
 use Rattle.rules.specs.Names.{bytes, judgment-name, node-name}
 use Rattle.rules.specs.Kinds.{sorts-of, sort-of, parts-of, part-of}
-use Rattle.rules.specs.Concludes.{sort}
+use Rattle.rules.specs.Sorts.{sort}
 use Rattle.writer.specs.Text.{Text, decimal, each}
 use Rattle.quotes.specs.Quotes.{cell-word, argument, node-as, lower, quote}
 use Rattle.quotes.specs.Judgments.{judgment-as}

@@ -24,7 +24,7 @@ use Rattle.listed.specs.Agrees.{call-said}
 use Rattle.listed.specs.Listed.{call-lines}
 use Rattle.syntax.specs.Told.{code-number}
 use Rattle.syntax.specs.Codes.{codes-of}
-use Rattle.syntax.specs.Kinds.{no-some}
+use Rattle.walk.specs.Bytes.{no-some}
 use Rattle.listed.specs.Cells.{lowered, quote-cell}
 use Rattle.listed.specs.Rows.{next}
 

@@ -11,7 +11,7 @@ use Rattle.walk.specs.Reader.{Kind, k-u, k-v, k-nat, k-zero, k-pi, k-lam, k-app
 use Rattle.link.specs.Table.{_>>=_, kind-word, part, interval-by, quote-by, CKind, k-nil, k-cons, context-by, lower, interval-at, quote-at, context-at}
 use Rattle.quotes.specs.Quotes.{cell-word}
 use Rattle.listed.specs.Said.{Part-in, Interval-cell, cell-0, cell-1, cell-dim, cell-neg, cell-meet, cell-join, Quote-cell, cell-u, cell-v, cell-nat, cell-zero, cell-pi, cell-lam, cell-app, cell-path, cell-plam, cell-papp, cell-sigma, cell-pair, cell-fst, cell-snd, Context-cell, cell-nil, cell-cons}
-use Rattle.syntax.specs.Kinds.{no-some, kind-byte, kind-is, ikind-byte, ikind-is}
+use Rattle.walk.specs.Bytes.{no-some, kind-byte, kind-is, ikind-byte, ikind-is}
 use Rattle.listed.specs.Kinds.{ckind-byte, ckind-is}
 
 -- what gives something gave something at each step

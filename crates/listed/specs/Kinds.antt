@@ -1,11 +1,11 @@
--- The byte of each kind of context, as `syntax`'s Kinds has those of the reader's tables. Assumes nothing.
+-- The byte of each kind of context, as `walk`'s Bytes has those of the reader's tables. Assumes nothing.
 use Prim.Native.Nat.{ℕ}
 use mathlib.Core.Path.{_≡_, refl}
 use mathlib.Core.Option.{none, some}
 use native.Mathlib.Omega.{arith}
 use lib.ListN.{getD}
 use Rattle.link.specs.Table.{CKind, k-nil, k-cons, ckinds}
-use Rattle.syntax.specs.Kinds.{Table, end, entry, blanks, found}
+use Rattle.walk.specs.Bytes.{Table, end, entry, blanks, found}
 
 abbrev pub ckind-byte : CKind → ℕ
 ckind-byte k-nil = 32

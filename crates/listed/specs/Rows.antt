@@ -10,7 +10,7 @@ use Rattle.walk.specs.Judgment.{Judgment, Argument, number, of-interval, of-quo
 use Rattle.walk.specs.Judgment as J
 use Rattle.walk.specs.State.{Row}
 use Rattle.walk.specs.Demand.{Row-at, newest, older, Cites, none-cited, _also_, Derivation-order}
-use Rattle.walk.specs.Concludes.{concludes, few-premises}
+use Rattle.schemas.specs.Concludes.{concludes, few-premises}
 use Rattle.link.specs.Table.{interval-at, quote-at, context-at, Stands-for, Row-words}
 use Rattle.writer.specs.Text.{Text, each}
 use Rattle.quotes.specs.Judgments.{row-word}

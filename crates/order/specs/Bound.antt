@@ -18,7 +18,8 @@ use Rattle.walk.specs.Walk.Numbers.{lt-by, le-by, larger, comparison-body, max-
 use Rattle.walk.specs.Walk.Intervals.{itransformed, ifinish, idim-above, idim, itransform-body, interval-body}
 use Rattle.walk.specs.Walk.Transforms.{under-body, transformed, finish, tvar-above, tvar, tinterval, tbinder, tprojection, transform-body}
 use Rattle.walk.specs.Walk.Contexts.{dshiftctx-body, new-ctx, ctx-body, lookup-body}
-use Rattle.walk.specs.Walk.Typing.{level, pi-parts, lam-parts, path-parts, plam-parts, sigma-parts, pair-parts, expose-body, universe-body, check-body, as-parts, as-pi, as-path, subject, found, find-binder, find-pair, find, new-infer, infer-body}
+use Rattle.walk.specs.Reader.{Kind, Kind-discrete, k-u, k-v, k-nat, k-zero, k-pi, k-lam, k-app, k-path, k-plam, k-papp, k-sigma, k-pair, k-fst, k-snd}
+use Rattle.walk.specs.Walk.Typing.{level, pi-parts, lam-parts, path-parts, plam-parts, sigma-parts, pair-parts, expose-body, universe-body, check-body, view, headed, as-parts, as-pi, as-path, as-sigma, found, find-binder, find-pair, find, new-infer, infer-body}
 use Rattle.walk.specs.Walk.Equality.{beta, at-end, pbeta, ends, fst-beta, snd-beta, reduce-body, rounds, normalize-body, equal-body}
 use Rattle.walk.specs.Refusal as Refusal
 use Rattle.walk.specs.Walk.{none-left, entered, callees-by, one-more, callees}
@@ -644,15 +645,6 @@ module _ (n : ℕ) (c c′ : Callees) (B : Bounds n c c′) where
       (λ _. bind (B .check d g (x₂ .0) (Universe (x₁ .0)) (omega arith)) λ x₃ c₃ e₃ h₃.
       let p = quotes-below g in let q = quote-below t in let r = quote-below (x₂ .0) in bind (emits _ _ _ (omega arith)) λ x₄ c₄ e₄ h₄. giving _ λ c e. omega arith)
 
-  universe-within : {b : ℕ} (d : ℕ) (g : Context) (t : Term) → (d + suc n ≤ 4200) × (context-top g ≤ 32 + b) × (term-top t ≤ 32 + b) → Within b (universe-body c d g t) (universe-body c′ d g t) (λ o b. o .0 ≤ 32 + b)
-  unfolding universe-body
-  universe-within d g t h =
-      bind (B .infer d g t (omega arith)) λ x₁ c₁ e₁ h₁.
-      cases (level (x₁ .0))
-      (λ l q. let p = level-top (x₁ .0) l q in giving _ λ c e. omega arith)
-      (λ _. convert (bind (B .expose d g t (x₁ .0) (x₁ .1) (omega arith)) λ x₂ c₂ e₂ h₂.
-      cases (level (x₂ .0)) (λ l q. let p = level-top (x₂ .0) l q in giving _ λ c e. omega arith) (λ _. refusing (λ z. omega arith))))
-
   check-within : {b : ℕ} (d : ℕ) (g : Context) (t y : Term) → (d + suc n ≤ 4200) × (context-top g ≤ 32 + b) × (term-top t ≤ 32 + b) × (term-top y ≤ 32 + b) → Within b (check-body c d g t y) (check-body c′ d g t y) Nothing
   unfolding check-body
   check-within d g t y h =
@@ -664,22 +656,27 @@ module _ (n : ℕ) (c c′ : Callees) (B : Bounds n c c′) where
       (λ _. bind (B .equal d g (x₁ .0) y (Universe (x₂ .0)) (omega arith)) λ x₄ c₄ e₄ h₄. let p = quotes-below g in let q = quote-below t in let r = quote-below y in emits _ _ _ (omega arith))
       (λ _. refusing (λ z. omega arith))))
 
-  as-parts-within : {b : ℕ} {A : Type 0} (parts : Term → Option A) (Small : A → ℕ → Type 0) → ((t : Term) (m : A) (k : ℕ) → parts t ≡ some m → term-top t ≤ 32 + k → Small m k) → (refusal : ℕ) → (refusal ≡ 0 → ⊥) → (d : ℕ) (g : Context) (t y : Term) (row : ℕ) → (d + suc n ≤ 4200) × (context-top g ≤ 32 + b) × (term-top t ≤ 32 + b) × (term-top y ≤ 32 + b) → Within b (as-parts parts refusal c d g t y row) (as-parts parts refusal c′ d g t y row) (λ o b. Small (o .0) b)
+  headed-within : {b : ℕ} (k : Kind) (d : ℕ) (g : Context) (t : Term) → (d + suc n ≤ 4200) × (context-top g ≤ 32 + b) × (term-top t ≤ 32 + b) → Within b (headed k c d g t) (headed k c′ d g t) (λ o b. term-top (o .0) ≤ 32 + b)
+  unfolding headed
+  headed-within k d g t h =
+      bind (B .infer d g t (omega arith)) λ x₁ c₁ e₁ h₁. branch (Kind-discrete (view (x₁ .0) .kind) k) (λ _. giving _ λ c e. omega arith) (λ _. convert (B .expose d g t (x₁ .0) (x₁ .1) (omega arith)))
+
+  as-parts-within : {b : ℕ} {A : Type 0} (k : Kind) (parts : Term → Option A) (Small : A → ℕ → Type 0) → ((t : Term) (m : A) (k : ℕ) → parts t ≡ some m → term-top t ≤ 32 + k → Small m k) → (refusal : ℕ) → (refusal ≡ 0 → ⊥) → (d : ℕ) (g : Context) (t : Term) → (d + suc n ≤ 4200) × (context-top g ≤ 32 + b) × (term-top t ≤ 32 + b) → Within b (as-parts k parts refusal c d g t) (as-parts k parts refusal c′ d g t) (λ o b. Small (o .0) b)
   unfolding as-parts
-  as-parts-within parts Small small refusal nonzero d g t y row h =
-      cases (parts y)
-      (λ of q. giving _ λ k e. small y of k q (omega arith))
-      (λ _. bind (convert (B .expose d g t y row (omega arith))) λ x₁ c₁ e₁ h₁. cases (parts (x₁ .0)) (λ of q. giving _ λ k e. small (x₁ .0) of k q (omega arith)) (λ _. refusing nonzero))
+  as-parts-within k parts Small small refusal nonzero d g t h =
+      bind (headed-within k d g t h) λ x₁ c₁ e₁ h₁. cases (parts (x₁ .0)) (λ of q. giving _ λ k e. small (x₁ .0) of k q (omega arith)) (λ _. refusing nonzero)
 
-  as-pi-within : {b : ℕ} (d : ℕ) (g : Context) (t y : Term) (row : ℕ) → (d + suc n ≤ 4200) × (context-top g ≤ 32 + b) × (term-top t ≤ 32 + b) × (term-top y ≤ 32 + b) → Within b (as-pi c d g t y row) (as-pi c′ d g t y row) (λ o b. (term-top (o .0 .0) ≤ 32 + b) × (term-top (o .0 .1) ≤ 32 + b))
-  as-pi-within = as-parts-within pi-parts (λ m b. (term-top (m .0) ≤ 32 + b) × (term-top (m .1) ≤ 32 + b)) (λ t m k q h. let p = pi-top t m q in omega arith) _ (λ z. omega arith)
+  universe-within : {b : ℕ} (d : ℕ) (g : Context) (t : Term) → (d + suc n ≤ 4200) × (context-top g ≤ 32 + b) × (term-top t ≤ 32 + b) → Within b (universe-body c d g t) (universe-body c′ d g t) (λ o b. o .0 ≤ 32 + b)
+  universe-within = as-parts-within k-u level (λ l b. l ≤ 32 + b) (λ t l k q h. let p = level-top t l q in omega arith) _ (λ z. omega arith)
 
-  as-path-within : {b : ℕ} (d : ℕ) (g : Context) (t y : Term) (row : ℕ) → (d + suc n ≤ 4200) × (context-top g ≤ 32 + b) × (term-top t ≤ 32 + b) × (term-top y ≤ 32 + b) → Within b (as-path c d g t y row) (as-path c′ d g t y row) (λ o b. (term-top (o .0 .0) ≤ 32 + b) × (term-top (o .0 .1) ≤ 32 + b) × (term-top (o .0 .2) ≤ 32 + b))
-  as-path-within = as-parts-within path-parts (λ m b. (term-top (m .0) ≤ 32 + b) × (term-top (m .1) ≤ 32 + b) × (term-top (m .2) ≤ 32 + b)) (λ t m k q h. let p = path-top t m q in omega arith) _ (λ z. omega arith)
+  as-pi-within : {b : ℕ} (d : ℕ) (g : Context) (t : Term) → (d + suc n ≤ 4200) × (context-top g ≤ 32 + b) × (term-top t ≤ 32 + b) → Within b (as-pi c d g t) (as-pi c′ d g t) (λ o b. (term-top (o .0 .0) ≤ 32 + b) × (term-top (o .0 .1) ≤ 32 + b))
+  as-pi-within = as-parts-within k-pi pi-parts (λ m b. (term-top (m .0) ≤ 32 + b) × (term-top (m .1) ≤ 32 + b)) (λ t m k q h. let p = pi-top t m q in omega arith) _ (λ z. omega arith)
 
-  subject-within : {b : ℕ} (d : ℕ) (g : Context) (p : Term) → (d + suc n ≤ 4200) × (context-top g ≤ 32 + b) × (term-top p ≤ 32 + b) → Within b (subject c d g p) (subject c′ d g p) (λ o b. (term-top (o .0 .0) ≤ 32 + b) × (term-top (o .0 .1) ≤ 32 + b))
-  unfolding subject
-  subject-within d g p h = bind (B .infer d g p (omega arith)) λ x₁ c₁ e₁ h₁. as-parts-within sigma-parts (λ m b. (term-top (m .0) ≤ 32 + b) × (term-top (m .1) ≤ 32 + b)) (λ t m k q h. let p = sigma-top t m q in omega arith) _ (λ z. omega arith) d g p (x₁ .0) (x₁ .1) (omega arith)
+  as-path-within : {b : ℕ} (d : ℕ) (g : Context) (t : Term) → (d + suc n ≤ 4200) × (context-top g ≤ 32 + b) × (term-top t ≤ 32 + b) → Within b (as-path c d g t) (as-path c′ d g t) (λ o b. (term-top (o .0 .0) ≤ 32 + b) × (term-top (o .0 .1) ≤ 32 + b) × (term-top (o .0 .2) ≤ 32 + b))
+  as-path-within = as-parts-within k-path path-parts (λ m b. (term-top (m .0) ≤ 32 + b) × (term-top (m .1) ≤ 32 + b) × (term-top (m .2) ≤ 32 + b)) (λ t m k q h. let p = path-top t m q in omega arith) _ (λ z. omega arith)
+
+  as-sigma-within : {b : ℕ} (d : ℕ) (g : Context) (t : Term) → (d + suc n ≤ 4200) × (context-top g ≤ 32 + b) × (term-top t ≤ 32 + b) → Within b (as-sigma c d g t) (as-sigma c′ d g t) (λ o b. (term-top (o .0 .0) ≤ 32 + b) × (term-top (o .0 .1) ≤ 32 + b))
+  as-sigma-within = as-parts-within k-sigma sigma-parts (λ m b. (term-top (m .0) ≤ 32 + b) × (term-top (m .1) ≤ 32 + b)) (λ t m k q h. let p = sigma-top t m q in omega arith) _ (λ z. omega arith)
 
   find-binder-within : {b : ℕ} (d : ℕ) (g : Context) (s t : Term) (rule : ℕ) → (d + suc n ≤ 4200) × (context-top g ≤ 32 + b) × (term-top s ≤ 32 + b) × (term-top t ≤ 32 + b) → Within b (find-binder c d g s t rule) (find-binder c′ d g s t rule) (λ o b. Ready (o .type) b)
   unfolding find-binder
@@ -701,7 +698,7 @@ module _ (n : ℕ) (c c′ : Callees) (B : Bounds n c c′) where
   find-within d g (Pi s t) h = find-binder-within d g s t _ (omega arith)
   find-within d g (Lam s t) h = bind (B .universe d g s (omega arith)) λ x₁ c₁ e₁ h₁. bind (B .infer d (Cons s g) t (omega arith)) λ x₂ c₂ e₂ h₂. bind (B .universe d (Cons s g) (x₂ .0) (omega arith)) λ x₃ c₃ e₃ h₃. founds (Pi s (x₂ .0)) _ _ (kept-ready (Pi s (x₂ .0)) (omega arith))
   find-within d g (App s t) h =
-      bind (B .infer d g s (omega arith)) λ x₁ c₁ e₁ h₁. bind (as-pi-within d g s (x₁ .0) (x₁ .1) (omega arith)) λ x₂ c₂ e₂ h₂.
+      bind (as-pi-within d g s (omega arith)) λ x₂ c₂ e₂ h₂.
       bind (B .check d g t (x₂ .0 .0) (omega arith)) λ x₃ c₃ e₃ h₃. bind (B .transform (x₂ .0 .1) (Subst 0 t) (omega arith)) λ x₄ c₄ e₄ h₄. founds (x₄ .0) _ _ (kept-ready (x₄ .0) (omega arith))
   find-within d g (Path s t r) h =
       bind (B .ctx d g (omega arith)) λ x₁ c₁ e₁ h₁. bind (B .dshiftctx g (omega arith)) λ x₂ c₂ e₂ h₂. bind (B .more d (omega arith)) λ x₃ c₃ e₃ h₃. bind (B .universe x₃ (x₂ .0) s (omega arith)) λ x₄ c₄ e₄ h₄.
@@ -713,13 +710,13 @@ module _ (n : ℕ) (c c′ : Callees) (B : Bounds n c c′) where
       bind (B .transform t (DSubst 0 I0) (omega arith)) λ x₆ c₆ e₆ h₆. bind (B .transform t (DSubst 0 I1) (omega arith)) λ x₇ c₇ e₇ h₇.
       bind (B .check d g (x₆ .0) (x₄ .0) (omega arith)) λ x₈ c₈ e₈ h₈. bind (B .check d g (x₇ .0) (x₅ .0) (omega arith)) λ x₉ c₉ e₉ h₉. founds (Path s (x₆ .0) (x₇ .0)) _ _ (kept-ready (Path s (x₆ .0) (x₇ .0)) (omega arith))
   find-within d g (PathApp s r) h =
-      bind (B .infer d g s (omega arith)) λ x₁ c₁ e₁ h₁. bind (as-path-within d g s (x₁ .0) (x₁ .1) (omega arith)) λ x₂ c₂ e₂ h₂.
+      bind (as-path-within d g s (omega arith)) λ x₂ c₂ e₂ h₂.
       bind (B .interval d r (omega arith)) λ x₃ c₃ e₃ h₃. bind (B .transform (x₂ .0 .0) (DSubst 0 r) (omega arith)) λ x₄ c₄ e₄ h₄. bind (B .universe d g (x₄ .0) (omega arith)) λ x₅ c₅ e₅ h₅. founds (x₄ .0) _ _ (kept-ready (x₄ .0) (omega arith))
   find-within d g (Sigma s t) h = find-binder-within d g s t _ (omega arith)
   find-within d g (Pair ty s t) h = cases (sigma-parts ty) (λ of q. let p = sigma-top ty of q in find-pair-within d g ty (of .0) (of .1) s t (omega arith)) (λ _. refusing (λ z. omega arith))
-  find-within d g (Fst p) h = bind (subject-within d g p (omega arith)) λ x₁ c₁ e₁ h₁. bind (B .universe d g (x₁ .0 .0) (omega arith)) λ x₂ c₂ e₂ h₂. founds (x₁ .0 .0) _ _ (kept-ready (x₁ .0 .0) (omega arith))
+  find-within d g (Fst p) h = bind (as-sigma-within d g p (omega arith)) λ x₁ c₁ e₁ h₁. bind (B .universe d g (x₁ .0 .0) (omega arith)) λ x₂ c₂ e₂ h₂. founds (x₁ .0 .0) _ _ (kept-ready (x₁ .0 .0) (omega arith))
   find-within d g (Snd p) h =
-      bind (subject-within d g p (omega arith)) λ x₁ c₁ e₁ h₁. bind (B .transform (x₁ .0 .1) (Subst 0 (Fst p)) (omega arith)) λ x₂ c₂ e₂ h₂. bind (B .universe d g (x₂ .0) (omega arith)) λ x₃ c₃ e₃ h₃.
+      bind (as-sigma-within d g p (omega arith)) λ x₁ c₁ e₁ h₁. bind (B .transform (x₁ .0 .1) (Subst 0 (Fst p)) (omega arith)) λ x₂ c₂ e₂ h₂. bind (B .universe d g (x₂ .0) (omega arith)) λ x₃ c₃ e₃ h₃.
       founds (x₂ .0) _ _ (kept-ready (x₂ .0) (omega arith))
 
   new-infer-within : {b : ℕ} (d : ℕ) (g : Context) (t : Term) → (d + suc n ≤ 4200) × (context-top g ≤ 32 + b) × (term-top t ≤ 32 + b) → Within b (new-infer c d g t) (new-infer c′ d g t) Small-term
@@ -770,14 +767,14 @@ module _ (n : ℕ) (c c′ : Callees) (B : Bounds n c c′) where
   fst-beta-within : {b : ℕ} (d : ℕ) (g : Context) (p s : Term) → (d + suc n ≤ 4200) × (context-top g ≤ 32 + b) × (term-top p ≤ 32 + b) × (term-top s ≤ 32 + b) → Within b (fst-beta c d g p s) (fst-beta c′ d g p s) Stepped
   unfolding fst-beta
   fst-beta-within d g p s h =
-      bind (subject-within d g p (omega arith)) λ x₁ c₁ e₁ h₁. bind (B .check d g s (x₁ .0 .0) (omega arith)) λ x₂ c₂ e₂ h₂.
+      bind (as-sigma-within d g p (omega arith)) λ x₁ c₁ e₁ h₁. bind (B .check d g s (x₁ .0 .0) (omega arith)) λ x₂ c₂ e₂ h₂.
       let a = quotes-below g in let q = quote-below (Fst p) in let u = quote-below s in let v = quote-below (x₁ .0 .0) in
       bind (emits _ _ _ (omega arith)) λ x₃ c₃ e₃ h₃. giving _ λ c e. omega arith
 
   snd-beta-within : {b : ℕ} (d : ℕ) (g : Context) (p s : Term) → (d + suc n ≤ 4200) × (context-top g ≤ 32 + b) × (term-top p ≤ 32 + b) × (term-top s ≤ 32 + b) → Within b (snd-beta c d g p s) (snd-beta c′ d g p s) Stepped
   unfolding snd-beta
   snd-beta-within d g p s h =
-      bind (subject-within d g p (omega arith)) λ x₁ c₁ e₁ h₁. bind (B .transform (x₁ .0 .1) (Subst 0 (Fst p)) (omega arith)) λ x₂ c₂ e₂ h₂.
+      bind (as-sigma-within d g p (omega arith)) λ x₁ c₁ e₁ h₁. bind (B .transform (x₁ .0 .1) (Subst 0 (Fst p)) (omega arith)) λ x₂ c₂ e₂ h₂.
       at-end-within d g (Snd p) s (x₂ .0) _ _ _ (omega arith)
 
   reduce-within : {b : ℕ} (d : ℕ) (g : Context) (t : Term) → (d + suc n ≤ 4200) × (context-top g ≤ 32 + b) × (term-top t ≤ 32 + b) → Within b (reduce-body c d g t) (reduce-body c′ d g t) Stepped
@@ -792,7 +789,7 @@ module _ (n : ℕ) (c c′ : Callees) (B : Bounds n c c′) where
   reduce-within d g (Path s t r) h = giving _ λ c e. tt
   reduce-within d g (PathLam s t) h = giving _ λ c e. tt
   reduce-within d g (PathApp p r) h =
-      bind (B .infer d g p (omega arith)) λ x₁ c₁ e₁ h₁. bind (as-path-within d g p (x₁ .0) (x₁ .1) (omega arith)) λ x₂ c₂ e₂ h₂. bind (B .transform (x₂ .0 .0) (DSubst 0 r) (omega arith)) λ x₃ c₃ e₃ h₃.
+      bind (as-path-within d g p (omega arith)) λ x₂ c₂ e₂ h₂. bind (B .transform (x₂ .0 .0) (DSubst 0 r) (omega arith)) λ x₃ c₃ e₃ h₃.
       cases (plam-parts p)
       (λ ab q. let z = plam-top p ab q in pbeta-within d g p r (ab .1) (x₃ .0) _ _ (omega arith))
       (λ _. ends-within d g p r (x₂ .0 .1) (x₂ .0 .2) (x₃ .0) _ _ (omega arith))

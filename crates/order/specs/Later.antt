@@ -17,7 +17,8 @@ use Rattle.walk.specs.Walk.Numbers.{lt-by, le-by, comparison-body, max-body}
 use Rattle.walk.specs.Walk.Intervals.{ifinish, idim-above, idim, itransform-body, interval-body}
 use Rattle.walk.specs.Walk.Transforms.{under-body, finish, tvar-above, tvar, tinterval, tbinder, tprojection, transform-body}
 use Rattle.walk.specs.Walk.Contexts.{dshiftctx-body, new-ctx, ctx-body, lookup-body}
-use Rattle.walk.specs.Walk.Typing.{expose-body, universe-body, check-body, as-parts, subject, found, find-binder, find-pair, find, new-infer, infer-body}
+use Rattle.walk.specs.Reader.{Kind}
+use Rattle.walk.specs.Walk.Typing.{expose-body, universe-body, check-body, headed, as-parts, found, find-binder, find-pair, find, new-infer, infer-body}
 use Rattle.walk.specs.Walk.Equality.{beta, at-end, pbeta, ends, fst-beta, snd-beta, reduce-body, rounds, normalize-body, equal-body}
 use Rattle.walk.specs.Walk.{none-left, entered, callees-by, one-more, callees}
 use Rattle.walk.specs.Demand.{Extends, same, more}
@@ -316,21 +317,17 @@ module _ (c : Callees) (L : All-lead c) where
   unfolding expose-body
   expose-leads d g t ty row = search (combinators, L .universe, L .normalize, L .check) depth 10
 
-  universe-leads : (d : ℕ) (g : Context) (t : Term) → Leads (universe-body c d g t)
-  unfolding universe-body
-  universe-leads d g t = search (combinators, L .infer, L .expose) depth 10
-
   check-leads : (d : ℕ) (g : Context) (t ty : Term) → Leads (check-body c d g t ty)
   unfolding check-body
   check-leads d g t ty = search (combinators, L .infer, L .universe, L .equal) depth 10
 
-  as-parts-leads : {A : Type 0} (parts : Term → Option A) (refusal d : ℕ) (g : Context) (t ty : Term) (row : ℕ) → Leads (as-parts parts refusal c d g t ty row)
-  unfolding as-parts
-  as-parts-leads parts refusal d g t ty row = search (combinators, L .expose) depth 10
+  headed-leads : (k : Kind) (d : ℕ) (g : Context) (t : Term) → Leads (headed k c d g t)
+  unfolding headed
+  headed-leads k d g t = search (combinators, L .infer, L .expose)
 
-  subject-leads : (d : ℕ) (g : Context) (p : Term) → Leads (subject c d g p)
-  unfolding subject
-  subject-leads d g p = search (combinators, L .infer, as-parts-leads)
+  as-parts-leads : {A : Type 0} (k : Kind) (parts : Term → Option A) (refusal d : ℕ) (g : Context) (t : Term) → Leads (as-parts k parts refusal c d g t)
+  unfolding as-parts
+  as-parts-leads k parts refusal d g t = search (combinators, headed-leads)
 
   founds : (ty : Term) (refs : List ℕ) (rule : ℕ) → Leads (found ty refs rule)
   unfolding found
@@ -344,14 +341,14 @@ module _ (c : Callees) (L : All-lead c) where
   find-leads d g (Var n) = search (combinators, founds, L .ctx, L .lookup)
   find-leads d g (Pi a b) = search (combinators, founds, L .universe, L .max)
   find-leads d g (Lam a b) = search (combinators, founds, L .universe, L .infer)
-  find-leads d g (App f a) = search (combinators, founds, L .infer, as-parts-leads, L .check, L .transform)
+  find-leads d g (App f a) = search (combinators, founds, as-parts-leads, L .check, L .transform)
   find-leads d g (Path a b e) = search (combinators, founds, L .ctx, L .dshiftctx, L .more, L .universe, L .check, L .transform) depth 20
   find-leads d g (PathLam a b) = search (combinators, founds, L .ctx, L .dshiftctx, L .more, L .universe, L .check, L .transform) depth 20
-  find-leads d g (PathApp p r) = search (combinators, founds, L .infer, as-parts-leads, L .interval, L .transform, L .universe) depth 10
+  find-leads d g (PathApp p r) = search (combinators, founds, as-parts-leads, L .interval, L .transform, L .universe) depth 10
   find-leads d g (Sigma a b) = search (combinators, founds, L .universe, L .max)
   find-leads d g (Pair ty a b) = search (combinators, founds, L .universe, L .check, L .transform) depth 10
-  find-leads d g (Fst p) = search (combinators, founds, subject-leads, L .universe)
-  find-leads d g (Snd p) = search (combinators, founds, subject-leads, L .transform, L .universe)
+  find-leads d g (Fst p) = search (combinators, founds, as-parts-leads, L .universe)
+  find-leads d g (Snd p) = search (combinators, founds, as-parts-leads, L .transform, L .universe)
 
   infer-leads : (d : ℕ) (g : Context) (t : Term) → Leads (infer-body c d g t)
   unfolding infer-body new-infer
@@ -389,11 +386,11 @@ module _ (c : Callees) (L : All-lead c) where
   reduce-leads d g (App f r) = search (combinators, beta-leads)
   reduce-leads d g (Path a b e) = search combinators
   reduce-leads d g (PathLam a b) = search combinators
-  reduce-leads d g (PathApp p r) = search (combinators, L .infer, as-parts-leads, L .transform, pbeta-leads, ends-leads) depth 10
+  reduce-leads d g (PathApp p r) = search (combinators, as-parts-leads, L .transform, pbeta-leads, ends-leads) depth 10
   reduce-leads d g (Sigma a b) = search combinators
   reduce-leads d g (Pair ty a b) = search combinators
-  reduce-leads d g (Fst p) = search (combinators, subject-leads, L .check) depth 10
-  reduce-leads d g (Snd p) = search (combinators, subject-leads, L .transform, at-end-leads) depth 10
+  reduce-leads d g (Fst p) = search (combinators, as-parts-leads, L .check) depth 10
+  reduce-leads d g (Snd p) = search (combinators, as-parts-leads, L .transform, at-end-leads) depth 10
 
   rounds-leads : (n d : ℕ) (g : Context) (t ty now : Term) (row : ℕ) → Leads (rounds n c d g t ty now row)
   unfolding rounds
@@ -414,7 +411,7 @@ none-lead = search (refuses, gives)
 
 entered-lead : (n : ℕ) (c : Callees) → All-lead c → All-lead (entered n c)
 unfolding entered
-entered-lead n c L = search (L .more, enters, ctx-leads, infer-leads, universe-leads, check-leads, expose-leads, normalize-leads, equal-leads, reduce-leads, lookup-leads, dshiftctx-leads, transform-leads, itransform-leads, under-leads, interval-leads, comparison-leads, max-leads)
+entered-lead n c L = search (L .more, enters, ctx-leads, infer-leads, as-parts-leads, check-leads, expose-leads, normalize-leads, equal-leads, reduce-leads, lookup-leads, dshiftctx-leads, transform-leads, itransform-leads, under-leads, interval-leads, comparison-leads, max-leads)
 
 -- the sixteen functions, with n entries left
 pub leads : (n : ℕ) → All-lead (callees n)

@@ -17,7 +17,8 @@ use Rattle.walk.specs.Walk.Numbers.{lt-by, le-by, comparison-body, max-body}
 use Rattle.walk.specs.Walk.Intervals.{idim-above, idim, itransform-body, interval-body}
 use Rattle.walk.specs.Walk.Transforms.{under-body, tvar-above, tvar, tbinder, tprojection, transform-body}
 use Rattle.walk.specs.Walk.Contexts.{dshiftctx-body, new-ctx, ctx-body, lookup-body}
-use Rattle.walk.specs.Walk.Typing.{expose-body, universe-body, check-body, level, pi-parts, lam-parts, path-parts, plam-parts, sigma-parts, pair-parts, subject, find-binder, find-pair, find, new-infer, infer-body}
+use Rattle.walk.specs.Reader.{Kind}
+use Rattle.walk.specs.Walk.Typing.{expose-body, universe-body, check-body, level, pi-parts, lam-parts, path-parts, plam-parts, sigma-parts, pair-parts, headed, as-parts, find-binder, find-pair, find, new-infer, infer-body}
 use Rattle.walk.specs.Walk.Equality.{beta, fst-beta, snd-beta, reduce-body, normalize-body, equal-body}
 use Rattle.walk.specs.Walk.{none-left, entered, one-more, callees-by, callees}
 use Rattle.walk.specs.Refusal as R
@@ -203,9 +204,13 @@ expose-alike : (d : ℕ) (g : Context) (t ty : Term) (row : ℕ) → Alike (of-c
 unfolding expose-body none-left counted-first
 expose-alike d g t ty row = stopped (stops-then _ _ (stops-here _ _ _ λ cells h. first-third (of-context g) (of-term t) (of-term ty) h))
 
+-- a term whose type is taken apart is lent
+as-parts-stops : {A : Type 0} {xs : List Thing} (k : Kind) (parts : Term → Option A) (refusal d : ℕ) (g : Context) (t : Term) → ((cells : List Thing) → Counted cells xs → Counted cells (of-context g ++ of-term t)) → Stops xs (as-parts k parts refusal refusing d g t) (as-parts k parts refusal counted-first d g t)
+unfolding as-parts headed none-left counted-first
+as-parts-stops k parts refusal d g t f = stops-then _ _ (stops-then _ _ (stops-here _ _ _ f))
+
 universe-alike : (d : ℕ) (g : Context) (t : Term) → Alike (of-context g ++ of-term t) (universe-body refusing d g t) (universe-body counted-first d g t)
-unfolding universe-body none-left counted-first
-universe-alike d g t = stopped (stops-then _ _ (stops-here _ _ _ λ cells h. h))
+universe-alike d g t = stopped (as-parts-stops _ _ _ d g t λ cells h. h)
 
 check-alike : (d : ℕ) (g : Context) (t ty : Term) → Alike (of-context g ++ of-term t ++ of-term ty) (check-body refusing d g t ty) (check-body counted-first d g t ty)
 unfolding check-body none-left counted-first
@@ -234,11 +239,6 @@ beta-alike : (d : ℕ) (g : Context) (a b r : Term) → Alike (of-context g ++ o
 unfolding beta none-left counted-first
 beta-alike d g a b r = stopped (stops-then _ _ (stops-here _ _ _ λ cells h. part-of (of-context g) (of-term a) (of-term b) _ (part-of (of-context g) (of-term (Lam a b)) (of-term r) _ h)))
 
--- the subject of a projection is a part of it
-subject-stops : (d : ℕ) (g : Context) (p : Term) (xs : List Thing) → Stops (of-context g ++ (of-term p ++ xs)) (subject refusing d g p) (subject counted-first d g p)
-unfolding subject none-left counted-first
-subject-stops d g p xs = stops-then _ _ (stops-here _ _ _ λ cells h. front-of (of-context g) (of-term p) xs h)
-
 reduce-alike : (d : ℕ) (g : Context) (t : Term) → Alike (of-context g ++ of-term t) (reduce-body refusing d g t) (reduce-body counted-first d g t)
 unfolding reduce-body fst-beta snd-beta none-left counted-first
 reduce-alike d g (Universe l) = unchanged _
@@ -250,11 +250,11 @@ reduce-alike d g (Lam a b) = unchanged _
 reduce-alike d g (App f r) = taken-alike (lam-parts f) _ λ ab q. rw (lam-is f ab q) (beta-alike d g (ab .0) (ab .1) r)
 reduce-alike d g (Path a b e) = unchanged _
 reduce-alike d g (PathLam a b) = unchanged _
-reduce-alike d g (PathApp p r) = stopped (stops-then _ _ (stops-here _ _ _ λ cells h. part-of (of-context g) (of-term p) (of-interval r) _ h))
+reduce-alike d g (PathApp p r) = stopped (stops-then _ _ (as-parts-stops _ _ _ d g p λ cells h. part-of (of-context g) (of-term p) (of-interval r) _ h))
 reduce-alike d g (Sigma a b) = unchanged _
 reduce-alike d g (Pair ty a b) = unchanged _
-reduce-alike d g (Fst p) = taken-alike (pair-parts p) _ λ _ _. stopped (stops-then _ _ (subject-stops d g p _))
-reduce-alike d g (Snd p) = taken-alike (pair-parts p) _ λ _ _. stopped (stops-then _ _ (subject-stops d g p _))
+reduce-alike d g (Fst p) = taken-alike (pair-parts p) _ λ _ _. stopped (stops-then _ _ (as-parts-stops _ _ _ d g p λ cells h. front-of (of-context g) (of-term p) _ h))
+reduce-alike d g (Snd p) = taken-alike (pair-parts p) _ λ _ _. stopped (stops-then _ _ (as-parts-stops _ _ _ d g p λ cells h. front-of (of-context g) (of-term p) _ h))
 
 find-stops : (d : ℕ) (g : Context) (t : Term) → Stops (of-context g ++ of-term t) (find refusing d g t) (find counted-first d g t)
 unfolding find find-binder find-pair none-left counted-first
@@ -264,14 +264,14 @@ find-stops d g Nat = stops-then _ _ (stops-here _ _ _ λ cells h. left-of (of-co
 find-stops d g Zero = stops-then _ _ (stops-here _ _ _ λ cells h. left-of (of-context g) _ h)
 find-stops d g (Pi a b) = stops-then _ _ (stops-here _ _ _ λ cells h. part-of (of-context g) (of-term a) (of-term b) _ h)
 find-stops d g (Lam a b) = stops-then _ _ (stops-here _ _ _ λ cells h. part-of (of-context g) (of-term a) (of-term b) _ h)
-find-stops d g (App f a) = stops-then _ _ (stops-here _ _ _ λ cells h. part-of (of-context g) (of-term f) (of-term a) _ h)
+find-stops d g (App f a) = stops-then _ _ (as-parts-stops _ _ _ d g f λ cells h. part-of (of-context g) (of-term f) (of-term a) _ h)
 find-stops d g (Path a b e) = stops-then _ _ (stops-here _ _ _ λ cells h. left-of (of-context g) _ h)
 find-stops d g (PathLam a b) = stops-then _ _ (stops-here _ _ _ λ cells h. left-of (of-context g) _ h)
-find-stops d g (PathApp p r) = stops-then _ _ (stops-here _ _ _ λ cells h. part-of (of-context g) (of-term p) (of-interval r) _ h)
+find-stops d g (PathApp p r) = stops-then _ _ (as-parts-stops _ _ _ d g p λ cells h. part-of (of-context g) (of-term p) (of-interval r) _ h)
 find-stops d g (Sigma a b) = stops-then _ _ (stops-here _ _ _ λ cells h. part-of (of-context g) (of-term a) (of-term b) _ h)
 find-stops d g (Pair ty a b) = taken-stops (sigma-parts ty) _ λ of q. rw (sigma-is ty of q) (stops-then _ _ (stops-here _ _ _ λ cells h. part-of (of-context g) (of-term (of .0)) (of-term (of .1)) _ (front-of (of-context g) (of-term (Sigma (of .0) (of .1))) (of-term a) (part-of (of-context g) (of-term (Sigma (of .0) (of .1)) ++ of-term a) (of-term b) _ h))))
-find-stops d g (Fst p) = stops-then _ _ (subject-stops d g p _)
-find-stops d g (Snd p) = stops-then _ _ (subject-stops d g p _)
+find-stops d g (Fst p) = stops-then _ _ (as-parts-stops _ _ _ d g p λ cells h. front-of (of-context g) (of-term p) _ h)
+find-stops d g (Snd p) = stops-then _ _ (as-parts-stops _ _ _ d g p λ cells h. front-of (of-context g) (of-term p) _ h)
 
 infer-alike : (d : ℕ) (g : Context) (t : Term) → Alike (of-context g ++ of-term t) (infer-body refusing d g t) (infer-body counted-first d g t)
 unfolding infer-body new-infer

@@ -13,10 +13,10 @@ use Rattle.walk.specs.Refusal as Refusal
 use Rattle.ast.specs.declared.cells.Shape.{Shape}
 use Rattle.ast.specs.declared.cells.Shape.the-variants.{Universe, Pi, Lam, Path, Plam, Sigma, Pair, Other}
 use Rattle.ast.proofs.cells.Shape as shape
-use Rattle.producer.specs.declared.state.Got.{Got}
-use Rattle.producer.specs.declared.state.Got.the-variants as got
-use Rattle.producer.specs.declared.state.Two.{Two}
-use Rattle.producer.specs.declared.state.Two.the-variants as two
+use Rattle.producer.specs.declared.answers.Got.{Got}
+use Rattle.producer.specs.declared.answers.Got.the-variants as got
+use Rattle.producer.specs.declared.answers.Two.{Two}
+use Rattle.producer.specs.declared.answers.Two.the-variants as two
 use Rattle.producer.specs.declared.intervals.IOp.{IOp}
 use Rattle.producer.specs.declared.transforms.Op.{Op}
 use Rattle.producer.specs.Machine.{Machine, W, next, _>>=_, give, stop, enter, note, end, end-2, ended, ended-1, ended-2, on-universe, on-pi, on-lam, on-path, on-plam, on-sigma, on-pair}

@@ -1,28 +1,22 @@
 -- The refusal of one answer as another's; an answer that is none is refused with 0. Assumes nothing.
-use Rattle.producer.specs.declared.state.Done.{Done}
-use Rattle.producer.specs.declared.state.Done.the-variants as done
-use Rattle.producer.specs.declared.state.Four.{Four}
-use Rattle.producer.specs.declared.state.Four.the-variants as four
-use Rattle.producer.specs.declared.state.Function.{Function}
-use Rattle.producer.specs.declared.state.Function.the-variants as function
-use Rattle.producer.specs.declared.state.Got.{Got}
-use Rattle.producer.specs.declared.state.Got.the-variants as got
-use Rattle.producer.specs.declared.state.Inferred.{Inferred}
-use Rattle.producer.specs.declared.state.Inferred.the-variants as inferred
-use Rattle.producer.specs.declared.state.Reduced.{Reduced}
-use Rattle.producer.specs.declared.state.Reduced.the-variants as reduced
-use Rattle.producer.specs.declared.state.Round.{Round}
-use Rattle.producer.specs.declared.state.Round.the-variants as round
-use Rattle.producer.specs.declared.state.Two.{Two}
-use Rattle.producer.specs.declared.state.Two.the-variants as two
+use Rattle.producer.specs.declared.answers.Done.{Done}
+use Rattle.producer.specs.declared.answers.Done.the-variants as done
+use Rattle.producer.specs.declared.answers.Four.{Four}
+use Rattle.producer.specs.declared.answers.Four.the-variants as four
+use Rattle.producer.specs.declared.answers.Got.{Got}
+use Rattle.producer.specs.declared.answers.Got.the-variants as got
+use Rattle.producer.specs.declared.answers.Inferred.{Inferred}
+use Rattle.producer.specs.declared.answers.Inferred.the-variants as inferred
+use Rattle.producer.specs.declared.answers.Reduced.{Reduced}
+use Rattle.producer.specs.declared.answers.Reduced.the-variants as reduced
+use Rattle.producer.specs.declared.answers.Round.{Round}
+use Rattle.producer.specs.declared.answers.Round.the-variants as round
+use Rattle.producer.specs.declared.answers.Two.{Two}
+use Rattle.producer.specs.declared.answers.Two.the-variants as two
 
 unfoldable pub two-as-got : Two → Got
 two-as-got (two.Pair s _ _) = got.Refused s 0
 two-as-got (two.Refused s e) = got.Refused s e
-
-unfoldable pub two-as-function : Two → Function
-two-as-function (two.Pair s _ _) = function.Refused s 0
-two-as-function (two.Refused s e) = function.Refused s e
 
 unfoldable pub two-as-four : Two → Four
 two-as-four (two.Pair s _ _) = four.Refused s 0
@@ -56,21 +50,9 @@ unfoldable pub got-as-round : Got → Round
 got-as-round (got.Is s _) = round.Refused s 0
 got-as-round (got.Refused s e) = round.Refused s e
 
-unfoldable pub function-as-inferred : Function → Inferred
-function-as-inferred (function.Of s _ _ _) = inferred.Refused s 0
-function-as-inferred (function.Refused s e) = inferred.Refused s e
-
-unfoldable pub function-as-reduced : Function → Reduced
-function-as-reduced (function.Of s _ _ _) = reduced.Refused s 0
-function-as-reduced (function.Refused s e) = reduced.Refused s e
-
 unfoldable pub four-as-inferred : Four → Inferred
 four-as-inferred (four.Each s _ _ _ _) = inferred.Refused s 0
 four-as-inferred (four.Refused s e) = inferred.Refused s e
-
-unfoldable pub four-as-reduced : Four → Reduced
-four-as-reduced (four.Each s _ _ _ _) = reduced.Refused s 0
-four-as-reduced (four.Refused s e) = reduced.Refused s e
 
 unfoldable pub inferred-as-two : Inferred → Two
 inferred-as-two (inferred.Has s _ _ _) = two.Refused s 0

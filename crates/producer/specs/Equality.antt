@@ -7,7 +7,7 @@ use Rattle.walk.specs.Rule as R
 use Rattle.walk.specs.Refusal as Refusal
 use Rattle.producer.specs.Machine.{W, Reduction, _>>=_, give, stop, when_then_else_, open-cell, same-quote, at-universe, at-pi, at-lam, at-path, at-plam, at-sigma, at-pair, make-fst, make-cons, emit-eq, refs-1, refs-2, refs-3, refs-5, refs-6}
 use Rattle.producer.specs.Callees.{Callees, for-call}
-use Rattle.producer.specs.Typing.{as-path, subject}
+use Rattle.producer.specs.Typing.{as-path, as-sigma}
 
 unfoldable pub beta-row : Callees → (d g t body r b x y z arg : ℕ) → W (Option Reduction)
 beta-row c d g t body r b x y z arg = do
@@ -48,22 +48,21 @@ at-ends c d g t r b e ty x y =
 
 unfoldable pub reduce-papp : Callees → (d g t p r : ℕ) → W (Option Reduction)
 reduce-papp c d g t p r = do
-  (pty, x₀) ← c .infer d g p
-  (a, b, e, x) ← as-path c d g p pty x₀
+  (a, b, e, x) ← as-path c d g p
   (ty, y) ← c .transform a (DSubst 0 r)
   at-plam p (λ _ body. pbeta c d g t r body ty x y) (at-ends c d g t r b e ty x y)
 
 -- the projections of the pair p
 unfoldable pub fst-beta : Callees → (d g t p a : ℕ) → W (Option Reduction)
 fst-beta c d g t p a = do
-  (ta, _, x) ← subject c d g p
+  (ta, _, x) ← as-sigma c d g p
   typed ← c .check d g a ta
   row ← emit-eq R.eq·fst-beta (refs-2 x typed) d g t a ta
   give (some (record { term = a; type = ta; row = row }))
 
 unfoldable pub snd-beta : Callees → (d g t p b : ℕ) → W (Option Reduction)
 snd-beta c d g t p b = do
-  (_, tb, x) ← subject c d g p
+  (_, tb, x) ← as-sigma c d g p
   (ty, y) ← for-call c (make-fst p) λ f. c .transform tb (Subst 0 f)
   at-end c d g t b ty x y R.eq·snd-beta
 

@@ -20,27 +20,25 @@ use Rattle.ast.specs.declared.cells.Found.{Found}
 use Rattle.ast.specs.declared.cells.Found.the-variants.{At, Nothing}
 use Rattle.ast.specs.declared.cells.Recalled.{Recalled}
 use Rattle.ast.specs.declared.cells.Recalled.the-variants.{Known, Unknown}
-use Rattle.producer.specs.declared.state.State.{State}
+use Rattle.producer.specs.declared.State.{State}
 use Rattle.producer.specs.declared.rows.Refs.{Refs}
 use Rattle.producer.specs.declared.transforms.Op.{Op}
-use Rattle.producer.specs.declared.state.Done.{Done}
-use Rattle.producer.specs.declared.state.Done.the-variants as done
-use Rattle.producer.specs.declared.state.Got.{Got}
-use Rattle.producer.specs.declared.state.Got.the-variants as got
-use Rattle.producer.specs.declared.state.Two.{Two}
-use Rattle.producer.specs.declared.state.Two.the-variants as two
-use Rattle.producer.specs.declared.state.Function.{Function}
-use Rattle.producer.specs.declared.state.Function.the-variants as function
-use Rattle.producer.specs.declared.state.Four.{Four}
-use Rattle.producer.specs.declared.state.Four.the-variants as four
-use Rattle.producer.specs.declared.state.Cited.{Cited}
-use Rattle.producer.specs.declared.state.Cited.the-variants as cited
-use Rattle.producer.specs.declared.state.Inferred.{Inferred}
-use Rattle.producer.specs.declared.state.Inferred.the-variants as inferred
-use Rattle.producer.specs.declared.state.Reduced.{Reduced}
-use Rattle.producer.specs.declared.state.Reduced.the-variants as reduced
-use Rattle.producer.specs.declared.state.Round.{Round}
-use Rattle.producer.specs.declared.state.Round.the-variants as round
+use Rattle.producer.specs.declared.answers.Done.{Done}
+use Rattle.producer.specs.declared.answers.Done.the-variants as done
+use Rattle.producer.specs.declared.answers.Got.{Got}
+use Rattle.producer.specs.declared.answers.Got.the-variants as got
+use Rattle.producer.specs.declared.answers.Two.{Two}
+use Rattle.producer.specs.declared.answers.Two.the-variants as two
+use Rattle.producer.specs.declared.answers.Four.{Four}
+use Rattle.producer.specs.declared.answers.Four.the-variants as four
+use Rattle.producer.specs.declared.answers.Cited.{Cited}
+use Rattle.producer.specs.declared.answers.Cited.the-variants as cited
+use Rattle.producer.specs.declared.answers.Inferred.{Inferred}
+use Rattle.producer.specs.declared.answers.Inferred.the-variants as inferred
+use Rattle.producer.specs.declared.answers.Reduced.{Reduced}
+use Rattle.producer.specs.declared.answers.Reduced.the-variants as reduced
+use Rattle.producer.specs.declared.answers.Round.{Round}
+use Rattle.producer.specs.declared.answers.Round.the-variants as round
 use Rattle.producer.specs.declared.transforms.Inner.{Inner}
 use Rattle.producer.specs.declared.transforms.Inner.the-variants as inner
 
@@ -113,10 +111,6 @@ end (got.Refused s e) R C = not e (machine R C s)
 unfoldable pub end-2 : Two → List ℕ → List ℕ → Result (ℕ × ℕ)
 end-2 (two.Pair s x y) R C = is (x, y) (machine R C s)
 end-2 (two.Refused s e) R C = not e (machine R C s)
-
-unfoldable pub end-3 : Function → List ℕ → List ℕ → Result (ℕ × ℕ × ℕ)
-end-3 (function.Of s x y z) R C = is (x, y, z) (machine R C s)
-end-3 (function.Refused s e) R C = not e (machine R C s)
 
 unfoldable pub end-4 : Four → List ℕ → List ℕ → Result (ℕ × ℕ × ℕ × ℕ)
 end-4 (four.Each s x y z u) R C = is (x, y, z, u) (machine R C s)

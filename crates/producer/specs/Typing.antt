@@ -38,17 +38,6 @@ expose-body c d g t ty typed = do
   (normal, equality) ← for-call c (make-universe l) λ u. c .normalize d g ty u
   same-quote normal ty (give (normal, typed)) (retyped c d g t l normal typed equality)
 
--- the level of a type that has its universe only once exposed
-unfoldable pub exposed : Callees → (d g t ty row : ℕ) → W (ℕ × ℕ)
-exposed c d g t ty row = do
-  (normal, row′) ← c .expose d g t ty row
-  at-universe normal (λ l. give (l, row′)) (stop Refusal.no-type)
-
-unfoldable pub universe-body : Callees → (d g t : ℕ) → W (ℕ × ℕ)
-universe-body c d g t = do
-  (ty, row) ← c .infer d g t
-  at-universe ty (λ l. give (l, row)) (converting (exposed c d g t ty row))
-
 -- a term of the one type has the other too
 unfoldable pub converted : Callees → (d g t actual expected row : ℕ) → W ℕ
 converted c d g t actual expected row = do
@@ -65,23 +54,33 @@ check-body c d g t expected = do
   (actual, row) ← c .infer d g t
   same-quote actual expected (give row) (converting (converted c d g t actual expected row))
 
--- a type with its head exposed, as a conversion
-unfoldable pub opened : Callees → (d g t ty row : ℕ) → W (ℕ × ℕ)
-opened c d g t ty row = converting (c .expose d g t ty row)
+-- the type of a term, its head exposed, as a conversion, where it is not of the kind wanted, and the row that the term has it
+unfoldable pub headed : Callees → (kind d g t : ℕ) → W (ℕ × ℕ)
+headed c kind d g t = do
+  (ty, row) ← c .infer d g t
+  open-cell ty λ w. when eqb (w .kind) kind then give (ty, row) else converting (c .expose d g t ty row)
 
--- a type with its head exposed where it is not yet a pi (a path); the term's row goes along
+-- that type taken apart
 
-unfoldable pub as-pi : Callees → (d g f ty row : ℕ) → W (ℕ × ℕ × ℕ)
-as-pi c d g f ty row =
-    at-pi ty (λ a b. give (a, b, row)) (do
-      (ty′, row′) ← opened c d g f ty row
-      at-pi ty′ (λ a b. give (a, b, row′)) (stop Refusal.no-function))
+unfoldable pub universe-body : Callees → (d g t : ℕ) → W (ℕ × ℕ)
+universe-body c d g t = do
+  (ty, row) ← headed c 1 d g t
+  at-universe ty (λ l. give (l, row)) (stop Refusal.no-type)
 
-unfoldable pub as-path : Callees → (d g p ty row : ℕ) → W (ℕ × ℕ × ℕ × ℕ)
-as-path c d g p ty row =
-    at-path ty (λ a b e. give (a, b, e, row)) (do
-      (ty′, row′) ← opened c d g p ty row
-      at-path ty′ (λ a b e. give (a, b, e, row′)) (stop Refusal.no-path))
+unfoldable pub as-pi : Callees → (d g f : ℕ) → W (ℕ × ℕ × ℕ)
+as-pi c d g f = do
+  (ty, row) ← headed c 5 d g f
+  at-pi ty (λ a b. give (a, b, row)) (stop Refusal.no-function)
+
+unfoldable pub as-path : Callees → (d g p : ℕ) → W (ℕ × ℕ × ℕ × ℕ)
+as-path c d g p = do
+  (ty, row) ← headed c 8 d g p
+  at-path ty (λ a b e. give (a, b, e, row)) (stop Refusal.no-path)
+
+unfoldable pub as-sigma : Callees → (d g p : ℕ) → W (ℕ × ℕ × ℕ)
+as-sigma c d g p = do
+  (ty, row) ← headed c 11 d g p
+  at-sigma ty (λ a b. give (a, b, row)) (stop Refusal.no-sigma)
 
 unfoldable pub found : W ℕ → Refs → ℕ → W Finding
 found make refs rule = do
@@ -117,8 +116,7 @@ find-lam c d g a body = do
 
 unfoldable pub find-app : Callees → (d g f a : ℕ) → W Finding
 find-app c d g f a = do
-  (fty, x₀) ← c .infer d g f
-  (domain, codomain, x) ← as-pi c d g f fty x₀
+  (domain, codomain, x) ← as-pi c d g f
   y ← c .check d g a domain
   (out, z) ← c .transform codomain (Subst 0 a)
   found (give out) (refs-3 x y z) R.type·app
@@ -162,20 +160,11 @@ find-plam c d g a body = do
 
 unfoldable pub find-papp : Callees → (d g p r : ℕ) → W Finding
 find-papp c d g p r = do
-  (pty, x₀) ← c .infer d g p
-  (a, _, _, x) ← as-path c d g p pty x₀
+  (a, _, _, x) ← as-path c d g p
   y ← c .interval d r
   (out, z) ← c .transform a (DSubst 0 r)
   (_, u) ← c .universe d g out
   found (give out) (refs-4 x y z u) R.type·papp
-
--- the subject of a projection: its type as a sigma, exposed where it is not yet one
-unfoldable pub subject : Callees → (d g p : ℕ) → W (ℕ × ℕ × ℕ)
-subject c d g p = do
-  (ty, row) ← c .infer d g p
-  at-sigma ty (λ a b. give (a, b, row)) (do
-    (ty′, row′) ← opened c d g p ty row
-    at-sigma ty′ (λ a b. give (a, b, row′)) (stop Refusal.no-sigma))
 
 unfoldable pub pair-typed : Callees → (d g ty ta tb a b : ℕ) → W Finding
 pair-typed c d g ty ta tb a b = do
@@ -192,13 +181,13 @@ find-pair c d g ty a b = at-sigma ty (λ ta tb. pair-typed c d g ty ta tb a b) (
 
 unfoldable pub find-fst : Callees → (d g p : ℕ) → W Finding
 find-fst c d g p = do
-  (ta, _, x) ← subject c d g p
+  (ta, _, x) ← as-sigma c d g p
   (_, y) ← c .universe d g ta
   found (give ta) (refs-2 x y) R.type·fst
 
 unfoldable pub find-snd : Callees → (d g p : ℕ) → W Finding
 find-snd c d g p = do
-  (_, tb, x) ← subject c d g p
+  (_, tb, x) ← as-sigma c d g p
   (out, y) ← for-call c (make-fst p) λ f. c .transform tb (Subst 0 f)
   (_, z) ← c .universe d g out
   found (give out) (refs-3 x y z) R.type·snd

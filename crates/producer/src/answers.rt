@@ -1,15 +1,94 @@
-// The refusal of one method as the refusal of another, whose answer has another type. An answer that is none is refused with 0: no caller has one.
+// What the methods of `State` answer: a state with what was found, or with the number of a refusal.
 ghost use mathlib.Core.Path.{_≡_};
-ghost use Rattle.producer.specs.Answers.{two-as-got, two-as-function, two-as-four, two-as-inferred, two-as-reduced, got-as-two, got-as-four, got-as-inferred, got-as-reduced, got-as-round, function-as-inferred, function-as-reduced, four-as-inferred, four-as-reduced, inferred-as-two, done-as-two};
-use crate::state::Done;
-use crate::state::Four;
-use crate::state::Function;
-use crate::state::Got;
-use crate::state::Inferred;
-use crate::state::Reduced;
-use crate::state::Round;
-use crate::state::Two;
+ghost use Rattle.producer.specs.Machine.{ended-1, ended-2};
+ghost use Rattle.producer.specs.Answers.{two-as-got, two-as-four, two-as-inferred, two-as-reduced, got-as-two, got-as-four, got-as-inferred, got-as-reduced, got-as-round, four-as-inferred, inferred-as-two, done-as-two};
+use crate::State;
+use crate::rows::Refs;
+use ast::words::less;
 
+// The state alone, or a refusal.
+pub enum Done {
+    Ready(State),
+    Refused(State, u32),
+}
+
+// A number, or a refusal.
+pub enum Got {
+    Is(State, u32),
+    Refused(State, u32),
+}
+
+// Two numbers, or a refusal.
+pub enum Two {
+    Pair(State, u32, u32),
+    Refused(State, u32),
+}
+
+// Two results with their rows, or a refusal.
+pub enum Four {
+    Each(State, u32, u32, u32, u32),
+    Refused(State, u32),
+}
+
+// A number and the rows to cite for it, or a refusal.
+pub enum Cited {
+    With(State, u32, Refs),
+    Refused(State, u32),
+}
+
+// What is inferred: a type, the rows to cite and the rule; or a refusal.
+pub enum Inferred {
+    Has(State, u32, Refs, u32),
+    Refused(State, u32),
+}
+
+// A root reduction: the term, its type and the row of the equation; none; or a refusal.
+pub enum Reduced {
+    Step(State, u32, u32, u32),
+    Whole(State),
+    Refused(State, u32),
+}
+
+// A round of `normalize`: the term reached and the row of its equation; the end; or a refusal.
+pub enum Round {
+    Next(State, u32, u32),
+    Over(State),
+    Refused(State, u32),
+}
+
+// A conversion has ended, however it did.
+pub fn ended_got(q: Got) -> Got
+    ensures { λ r. ⌜ r ≡ ended-1 q ⌝ }
+{
+    match q {
+        Got::Is(s, x) => {
+            let n = less(s.conversions, 1);
+            Got::Is(s.converting(n), x)
+        }
+        Got::Refused(s, e) => {
+            let n = less(s.conversions, 1);
+            Got::Refused(s.converting(n), e)
+        }
+    }
+}
+
+// The same of two numbers.
+pub fn ended_two(q: Two) -> Two
+    ensures { λ r. ⌜ r ≡ ended-2 q ⌝ }
+{
+    match q {
+        Two::Pair(s, x, y) => {
+            let n = less(s.conversions, 1);
+            Two::Pair(s.converting(n), x, y)
+        }
+        Two::Refused(s, e) => {
+            let n = less(s.conversions, 1);
+            Two::Refused(s.converting(n), e)
+        }
+    }
+}
+
+// The refusal of one method as the refusal of another, whose answer has another type. An answer that is none is refused with 0: no caller has one.
 impl Two {
     pub fn as_got(self) -> Got
         ensures { λ r. ⌜ r ≡ two-as-got self ⌝ }
@@ -18,16 +97,6 @@ impl Two {
         match q {
             Two::Pair(s, _, _) => Got::Refused(s, 0),
             Two::Refused(s, e) => Got::Refused(s, e),
-        }
-    }
-
-    pub fn as_function(self) -> Function
-        ensures { λ r. ⌜ r ≡ two-as-function self ⌝ }
-    {
-        let q = self;
-        match q {
-            Two::Pair(s, _, _) => Function::Refused(s, 0),
-            Two::Refused(s, e) => Function::Refused(s, e),
         }
     }
 
@@ -114,28 +183,6 @@ impl Got {
     }
 }
 
-impl Function {
-    pub fn as_inferred(self) -> Inferred
-        ensures { λ r. ⌜ r ≡ function-as-inferred self ⌝ }
-    {
-        let q = self;
-        match q {
-            Function::Of(s, _, _, _) => Inferred::Refused(s, 0),
-            Function::Refused(s, e) => Inferred::Refused(s, e),
-        }
-    }
-
-    pub fn as_reduced(self) -> Reduced
-        ensures { λ r. ⌜ r ≡ function-as-reduced self ⌝ }
-    {
-        let q = self;
-        match q {
-            Function::Of(s, _, _, _) => Reduced::Refused(s, 0),
-            Function::Refused(s, e) => Reduced::Refused(s, e),
-        }
-    }
-}
-
 impl Four {
     pub fn as_inferred(self) -> Inferred
         ensures { λ r. ⌜ r ≡ four-as-inferred self ⌝ }
@@ -144,16 +191,6 @@ impl Four {
         match q {
             Four::Each(s, _, _, _, _) => Inferred::Refused(s, 0),
             Four::Refused(s, e) => Inferred::Refused(s, e),
-        }
-    }
-
-    pub fn as_reduced(self) -> Reduced
-        ensures { λ r. ⌜ r ≡ four-as-reduced self ⌝ }
-    {
-        let q = self;
-        match q {
-            Four::Each(s, _, _, _, _) => Reduced::Refused(s, 0),
-            Four::Refused(s, e) => Reduced::Refused(s, e),
         }
     }
 }

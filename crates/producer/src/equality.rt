@@ -3,19 +3,17 @@ ghost use mathlib.Core.Path.{_≡_};
 ghost use Rattle.producer.specs.Machine.{machine, end, end-2, end-step, end-round};
 ghost use Rattle.producer.specs.Equality.{beta, beta-row, at-end, pbeta, reduce-papp, round, rounds};
 ghost use Rattle.producer.specs.Calls.{callees};
+use crate::State;
+use crate::answers::Got;
+use crate::answers::Reduced;
+use crate::answers::Round;
+use crate::answers::Two;
 use crate::codes;
 use crate::rows::cite1;
 use crate::rows::cite2;
 use crate::rows::cite3;
 use crate::rows::cite5;
 use crate::rows::cite6;
-use crate::state::Four;
-use crate::state::Function;
-use crate::state::Got;
-use crate::state::Reduced;
-use crate::state::Round;
-use crate::state::State;
-use crate::state::Two;
 use crate::transforms::Op;
 use ast::cells::Shape;
 use ast::cells::read;
@@ -61,9 +59,13 @@ impl State {
                 let Shape::Pair(_, a, _) = shape else {
                     return Reduced::Whole(s0);
                 };
-                let q1 = s0.sigma(down, rows, cells, d, g, cell.a);
-                let Function::Of(s1, ta, _, x) = q1 else {
+                let q1 = s0.head(down, rows, cells, d, g, cell.a, kinds::SIGMA);
+                let Two::Pair(s1, sigma, x) = q1 else {
                     return q1.as_reduced();
+                };
+                let parts = shape_of(cells, sigma);
+                let Shape::Sigma(ta, _) = parts else {
+                    return Reduced::Refused(s1, refusals::NO_SIGMA);
                 };
                 let q2 = s1.check(down, rows, cells, d, g, a, ta);
                 let Got::Is(s2, typed) = q2 else {
@@ -82,9 +84,13 @@ impl State {
                 let Shape::Pair(_, _, b) = shape else {
                     return Reduced::Whole(s0);
                 };
-                let q1 = s0.sigma(down, rows, cells, d, g, cell.a);
-                let Function::Of(s1, _, tb, x) = q1 else {
+                let q1 = s0.head(down, rows, cells, d, g, cell.a, kinds::SIGMA);
+                let Two::Pair(s1, sigma, x) = q1 else {
                     return q1.as_reduced();
+                };
+                let parts = shape_of(cells, sigma);
+                let Shape::Sigma(_, tb) = parts else {
+                    return Reduced::Refused(s1, refusals::NO_SIGMA);
                 };
                 let q2 = s1.prepare(down, rows, cells, kinds::FST, cell.a, 0);
                 let Got::Is(s2, first) = q2 else {
@@ -192,35 +198,35 @@ impl State {
     ) -> Reduced
         ensures { λ x. ⌜ end-step x (now (rows .exit)) (now (cells .exit)) ≡ reduce-papp (callees left) d g t p r (machine (now (rows .entry)) (now (cells .entry)) self) ⌝ }
     {
-        let q1 = self.infer(left, rows, cells, d, g, p);
-        let Two::Pair(s1, pty, row) = q1 else {
+        let q1 = self.head(left, rows, cells, d, g, p, kinds::PATH);
+        let Two::Pair(s1, path, x) = q1 else {
             return q1.as_reduced();
         };
-        let q2 = s1.as_path(left, rows, cells, d, g, p, pty, row);
-        let Four::Each(s2, family, b, c, x) = q2 else {
-            return q2.as_reduced();
+        let sides = shape_of(cells, path);
+        let Shape::Path(family, b, c) = sides else {
+            return Reduced::Refused(s1, refusals::NO_PATH);
         };
-        let q3 = s2.transform(left, rows, cells, family, Op::DSubst(0, r));
-        let Two::Pair(s3, ty, y) = q3 else {
-            return q3.as_reduced();
+        let q2 = s1.transform(left, rows, cells, family, Op::DSubst(0, r));
+        let Two::Pair(s2, ty, y) = q2 else {
+            return q2.as_reduced();
         };
         let shape = shape_of(cells, p);
         if let Shape::Plam(_, body) = shape {
-            return s3.pbeta(left, rows, cells, d, g, t, r, body, ty, x, y);
+            return s2.pbeta(left, rows, cells, d, g, t, r, body, ty, x, y);
         }
         // Otherwise it is a side of its type, at a literal end alone.
         let cell = read(cells, r);
         let kind = cell.kind;
         match kind {
             kinds::I0 => {
-                return s3.step(left, rows, cells, d, g, t, b, ty, x, y, codes::EQ_P0);
+                return s2.step(left, rows, cells, d, g, t, b, ty, x, y, codes::EQ_P0);
             }
             kinds::I1 => {
-                return s3.step(left, rows, cells, d, g, t, c, ty, x, y, codes::EQ_P1);
+                return s2.step(left, rows, cells, d, g, t, c, ty, x, y, codes::EQ_P1);
             }
             _ => {}
         }
-        Reduced::Whole(s3)
+        Reduced::Whole(s2)
     }
 
     // A plam that is applied to `r`.

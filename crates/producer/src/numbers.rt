@@ -2,11 +2,11 @@
 ghost use mathlib.Core.Path.{_≡_};
 ghost use Rattle.producer.specs.Machine.{machine, end};
 ghost use Rattle.producer.specs.Calls.{callees};
+use crate::State;
+use crate::answers::Got;
 use crate::codes;
 use crate::rows::cite0;
 use crate::rows::cite1;
-use crate::state::Got;
-use crate::state::State;
 use ast::refusals;
 use ast::words::greater;
 

@@ -1,9 +1,17 @@
 // Typing: contexts, inference, universes, checks, exposed types. With equality.rt these form one cycle of calls;
 // a reference function is entered with one less nesting left, and an arm of one keeps what is left.
 ghost use mathlib.Core.Path.{_≡_};
-ghost use Rattle.producer.specs.Machine.{machine, end, end-2, end-3, end-4, end-found};
-ghost use Rattle.producer.specs.Typing.{exposed, converted, opened, as-pi, as-path, find-atom, find-var, find-binder, find-lam, find-app, ends, find-path, find-plam, find-papp, subject, find-pair, find-fst, find-snd, find};
+ghost use Rattle.producer.specs.Machine.{machine, end, end-2, end-4, end-found};
+ghost use Rattle.producer.specs.Typing.{headed, converted, find-atom, find-var, find-binder, find-lam, find-app, ends, find-path, find-plam, find-papp, find-pair, find-fst, find-snd, find};
 ghost use Rattle.producer.specs.Calls.{callees};
+use crate::State;
+use crate::answers::Done;
+use crate::answers::Four;
+use crate::answers::Got;
+use crate::answers::Inferred;
+use crate::answers::Two;
+use crate::answers::ended_got;
+use crate::answers::ended_two;
 use crate::codes;
 use crate::rows::cite0;
 use crate::rows::cite1;
@@ -14,15 +22,6 @@ use crate::rows::cite6;
 use crate::rows::cite7;
 use crate::rows::cite10;
 use crate::rows::find_row;
-use crate::state::Done;
-use crate::state::Four;
-use crate::state::Function;
-use crate::state::Got;
-use crate::state::Inferred;
-use crate::state::State;
-use crate::state::Two;
-use crate::state::ended_got;
-use crate::state::ended_two;
 use crate::transforms::Op;
 use ast::cells::Found;
 use ast::cells::Recalled;
@@ -159,45 +158,15 @@ impl State {
         }
         let down = left - 1;
         let s0 = self.deeper(down);
-        let q1 = s0.infer(down, rows, cells, d, g, t);
+        let q1 = s0.head(down, rows, cells, d, g, t, kinds::UNIVERSE);
         let Two::Pair(s1, ty, row) = q1 else {
             return q1;
         };
         let shape = shape_of(cells, ty);
-        if let Shape::Universe(level) = shape {
-            return Two::Pair(s1, level, row);
-        }
-        if s1.conversions < 32 {
-            let s2 = s1.converting(s1.conversions + 1);
-            let q2 = s2.sort(down, rows, cells, d, g, t, ty, row);
-            return ended_two(q2);
-        }
-        Two::Refused(s1, refusals::CONVERSIONS)
-    }
-
-    // The level of a type that has its universe only once exposed.
-    pub fn sort(
-        self,
-        left: u32,
-        rows: &mut [u32],
-        cells: &mut [u32],
-        d: u32,
-        g: u32,
-        t: u32,
-        ty: u32,
-        row: u32,
-    ) -> Two
-        ensures { λ r. ⌜ end-2 r (now (rows .exit)) (now (cells .exit)) ≡ exposed (callees left) d g t ty row (machine (now (rows .entry)) (now (cells .entry)) self) ⌝ }
-    {
-        let q = self.expose(left, rows, cells, d, g, t, ty, row);
-        let Two::Pair(s, normal, typed) = q else {
-            return q;
-        };
-        let shape = shape_of(cells, normal);
         let Shape::Universe(level) = shape else {
-            return Two::Refused(s, refusals::NO_TYPE);
+            return Two::Refused(s1, refusals::NO_TYPE);
         };
-        Two::Pair(s, level, typed)
+        Two::Pair(s1, level, row)
     }
 
     // The row that the term has the type.
@@ -271,7 +240,7 @@ impl State {
         s4.emit_has(rows, cells, codes::TYPE_CONV, refs, d, g, t, expected)
     }
 
-    // A type with its head exposed, as a conversion.
+    // The type of a term, its head exposed, as a conversion, where it is not of the kind wanted, and the row that the term has it.
     pub fn head(
         self,
         left: u32,
@@ -280,75 +249,24 @@ impl State {
         d: u32,
         g: u32,
         t: u32,
-        ty: u32,
-        row: u32,
+        kind: u32,
     ) -> Two
-        ensures { λ r. ⌜ end-2 r (now (rows .exit)) (now (cells .exit)) ≡ opened (callees left) d g t ty row (machine (now (rows .entry)) (now (cells .entry)) self) ⌝ }
+        ensures { λ r. ⌜ end-2 r (now (rows .exit)) (now (cells .exit)) ≡ headed (callees left) kind d g t (machine (now (rows .entry)) (now (cells .entry)) self) ⌝ }
     {
-        if self.conversions < 32 {
-            let s1 = self.converting(self.conversions + 1);
-            let q = s1.expose(left, rows, cells, d, g, t, ty, row);
-            return ended_two(q);
+        let q1 = self.infer(left, rows, cells, d, g, t);
+        let Two::Pair(s1, ty, row) = q1 else {
+            return q1;
+        };
+        let cell = read(cells, ty);
+        if cell.kind == kind {
+            return Two::Pair(s1, ty, row);
         }
-        Two::Refused(self, refusals::CONVERSIONS)
-    }
-
-    // The type of a function, taken apart as a pi, and its row; refuses (9) another.
-    pub fn as_pi(
-        self,
-        left: u32,
-        rows: &mut [u32],
-        cells: &mut [u32],
-        d: u32,
-        g: u32,
-        f: u32,
-        ty: u32,
-        row: u32,
-    ) -> Function
-        ensures { λ r. ⌜ end-3 r (now (rows .exit)) (now (cells .exit)) ≡ as-pi (callees left) d g f ty row (machine (now (rows .entry)) (now (cells .entry)) self) ⌝ }
-    {
-        let shape = shape_of(cells, ty);
-        if let Shape::Pi(a, b) = shape {
-            return Function::Of(self, a, b, row);
+        if s1.conversions < 32 {
+            let s2 = s1.converting(s1.conversions + 1);
+            let q2 = s2.expose(left, rows, cells, d, g, t, ty, row);
+            return ended_two(q2);
         }
-        let q = self.head(left, rows, cells, d, g, f, ty, row);
-        let Two::Pair(s, normal, typed) = q else {
-            return q.as_function();
-        };
-        let exposed = shape_of(cells, normal);
-        let Shape::Pi(a, b) = exposed else {
-            return Function::Refused(s, refusals::NO_FUNCTION);
-        };
-        Function::Of(s, a, b, typed)
-    }
-
-    // The type of a path, taken apart as a path type, and its row; refuses (10) another.
-    pub fn as_path(
-        self,
-        left: u32,
-        rows: &mut [u32],
-        cells: &mut [u32],
-        d: u32,
-        g: u32,
-        p: u32,
-        ty: u32,
-        row: u32,
-    ) -> Four
-        ensures { λ r. ⌜ end-4 r (now (rows .exit)) (now (cells .exit)) ≡ as-path (callees left) d g p ty row (machine (now (rows .entry)) (now (cells .entry)) self) ⌝ }
-    {
-        let shape = shape_of(cells, ty);
-        if let Shape::Path(a, b, c) = shape {
-            return Four::Each(self, a, b, c, row);
-        }
-        let q = self.head(left, rows, cells, d, g, p, ty, row);
-        let Two::Pair(s, normal, typed) = q else {
-            return q.as_four();
-        };
-        let exposed = shape_of(cells, normal);
-        let Shape::Path(a, b, c) = exposed else {
-            return Four::Refused(s, refusals::NO_PATH);
-        };
-        Four::Each(s, a, b, c, typed)
+        Two::Refused(s1, refusals::CONVERSIONS)
     }
 
     // The type of a term, and the row that it has it: what is remembered, or found anew.
@@ -591,24 +509,24 @@ impl State {
     ) -> Inferred
         ensures { λ r. ⌜ end-found r (now (rows .exit)) (now (cells .exit)) ≡ find-app (callees left) d g f a (machine (now (rows .entry)) (now (cells .entry)) self) ⌝ }
     {
-        let q1 = self.infer(left, rows, cells, d, g, f);
-        let Two::Pair(s1, fty, row) = q1 else {
+        let q1 = self.head(left, rows, cells, d, g, f, kinds::PI);
+        let Two::Pair(s1, pi, x) = q1 else {
             return q1.as_inferred();
         };
-        let q2 = s1.as_pi(left, rows, cells, d, g, f, fty, row);
-        let Function::Of(s2, domain, codomain, x) = q2 else {
+        let shape = shape_of(cells, pi);
+        let Shape::Pi(domain, codomain) = shape else {
+            return Inferred::Refused(s1, refusals::NO_FUNCTION);
+        };
+        let q2 = s1.check(left, rows, cells, d, g, a, domain);
+        let Got::Is(s2, y) = q2 else {
             return q2.as_inferred();
         };
-        let q3 = s2.check(left, rows, cells, d, g, a, domain);
-        let Got::Is(s3, y) = q3 else {
+        let q3 = s2.transform(left, rows, cells, codomain, Op::Subst(0, a));
+        let Two::Pair(s3, out, z) = q3 else {
             return q3.as_inferred();
         };
-        let q4 = s3.transform(left, rows, cells, codomain, Op::Subst(0, a));
-        let Two::Pair(s4, out, z) = q4 else {
-            return q4.as_inferred();
-        };
         let refs = cite3(x, y, z);
-        Inferred::Has(s4, out, refs, codes::TYPE_APP)
+        Inferred::Has(s3, out, refs, codes::TYPE_APP)
     }
 
     // Both ends of a term: at i0, and at i1.
@@ -748,59 +666,28 @@ impl State {
     ) -> Inferred
         ensures { λ x. ⌜ end-found x (now (rows .exit)) (now (cells .exit)) ≡ find-papp (callees left) d g p r (machine (now (rows .entry)) (now (cells .entry)) self) ⌝ }
     {
-        let q1 = self.infer(left, rows, cells, d, g, p);
-        let Two::Pair(s1, pty, row) = q1 else {
+        let q1 = self.head(left, rows, cells, d, g, p, kinds::PATH);
+        let Two::Pair(s1, path, x) = q1 else {
             return q1.as_inferred();
         };
-        let q2 = s1.as_path(left, rows, cells, d, g, p, pty, row);
-        let Four::Each(s2, family, _, _, x) = q2 else {
+        let shape = shape_of(cells, path);
+        let Shape::Path(family, _, _) = shape else {
+            return Inferred::Refused(s1, refusals::NO_PATH);
+        };
+        let q2 = s1.interval(left, rows, cells, d, r);
+        let Got::Is(s2, y) = q2 else {
             return q2.as_inferred();
         };
-        let q3 = s2.interval(left, rows, cells, d, r);
-        let Got::Is(s3, y) = q3 else {
+        let q3 = s2.transform(left, rows, cells, family, Op::DSubst(0, r));
+        let Two::Pair(s3, out, z) = q3 else {
             return q3.as_inferred();
         };
-        let q4 = s3.transform(left, rows, cells, family, Op::DSubst(0, r));
-        let Two::Pair(s4, out, z) = q4 else {
+        let q4 = s3.universe(left, rows, cells, d, g, out);
+        let Two::Pair(s4, _, u) = q4 else {
             return q4.as_inferred();
         };
-        let q5 = s4.universe(left, rows, cells, d, g, out);
-        let Two::Pair(s5, _, u) = q5 else {
-            return q5.as_inferred();
-        };
         let refs = cite4(x, y, z, u);
-        Inferred::Has(s5, out, refs, codes::TYPE_PAPP)
-    }
-
-    // The subject of a projection: its type taken apart as a sigma, and its row; refuses (21) another.
-    pub fn sigma(
-        self,
-        left: u32,
-        rows: &mut [u32],
-        cells: &mut [u32],
-        d: u32,
-        g: u32,
-        p: u32,
-    ) -> Function
-        ensures { λ r. ⌜ end-3 r (now (rows .exit)) (now (cells .exit)) ≡ subject (callees left) d g p (machine (now (rows .entry)) (now (cells .entry)) self) ⌝ }
-    {
-        let q1 = self.infer(left, rows, cells, d, g, p);
-        let Two::Pair(s1, ty, row) = q1 else {
-            return q1.as_function();
-        };
-        let shape = shape_of(cells, ty);
-        if let Shape::Sigma(a, b) = shape {
-            return Function::Of(s1, a, b, row);
-        }
-        let q2 = s1.head(left, rows, cells, d, g, p, ty, row);
-        let Two::Pair(s2, normal, typed) = q2 else {
-            return q2.as_function();
-        };
-        let exposed = shape_of(cells, normal);
-        let Shape::Sigma(a, b) = exposed else {
-            return Function::Refused(s2, refusals::NO_SIGMA);
-        };
-        Function::Of(s2, a, b, typed)
+        Inferred::Has(s4, out, refs, codes::TYPE_PAPP)
     }
 
     // A pair has the sigma type that it is annotated with; refuses (22) an annotation that is not written as one.
@@ -869,9 +756,13 @@ impl State {
     ) -> Inferred
         ensures { λ r. ⌜ end-found r (now (rows .exit)) (now (cells .exit)) ≡ find-fst (callees left) d g p (machine (now (rows .entry)) (now (cells .entry)) self) ⌝ }
     {
-        let q1 = self.sigma(left, rows, cells, d, g, p);
-        let Function::Of(s1, ta, _, x) = q1 else {
+        let q1 = self.head(left, rows, cells, d, g, p, kinds::SIGMA);
+        let Two::Pair(s1, sigma, x) = q1 else {
             return q1.as_inferred();
+        };
+        let shape = shape_of(cells, sigma);
+        let Shape::Sigma(ta, _) = shape else {
+            return Inferred::Refused(s1, refusals::NO_SIGMA);
         };
         let q2 = s1.universe(left, rows, cells, d, g, ta);
         let Two::Pair(s2, _, y) = q2 else {
@@ -893,9 +784,13 @@ impl State {
     ) -> Inferred
         ensures { λ r. ⌜ end-found r (now (rows .exit)) (now (cells .exit)) ≡ find-snd (callees left) d g p (machine (now (rows .entry)) (now (cells .entry)) self) ⌝ }
     {
-        let q1 = self.sigma(left, rows, cells, d, g, p);
-        let Function::Of(s1, _, tb, x) = q1 else {
+        let q1 = self.head(left, rows, cells, d, g, p, kinds::SIGMA);
+        let Two::Pair(s1, sigma, x) = q1 else {
             return q1.as_inferred();
+        };
+        let shape = shape_of(cells, sigma);
+        let Shape::Sigma(_, tb) = shape else {
+            return Inferred::Refused(s1, refusals::NO_SIGMA);
         };
         let q2 = s1.prepare(left, rows, cells, kinds::FST, p, 0);
         let Got::Is(s2, first) = q2 else {

@@ -2,4 +2,4 @@
 -- What readers must believe: Names, Kinds.
 pub mod Names
 pub mod Kinds
-pub mod Concludes
+pub mod Sorts

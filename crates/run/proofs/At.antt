@@ -8,8 +8,8 @@ use native.Mathlib.Numerals.{sub-one}
 use Rattle.walk.specs.Refusal as Refusal
 use Rattle.ast.specs.Words.{up}
 use Rattle.producer.specs.Machine.{Machine, give, stop, end-2}
-use Rattle.producer.specs.declared.state.Two.{Two}
-use Rattle.producer.specs.declared.state.Two.the-variants.{Pair, Refused}
+use Rattle.producer.specs.declared.answers.Two.{Two}
+use Rattle.producer.specs.declared.answers.Two.the-variants.{Pair, Refused}
 use Rattle.run.specs.Run.{Told, told, turn-end, answered-of, turned, played}
 use Rattle.run.specs.Build.{built-body, built, scoped, scoped-body}
 

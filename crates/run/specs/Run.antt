@@ -6,9 +6,9 @@ use lib.ListN.{length}
 use lib.Seq.{sets}
 use Rattle.walk.specs.Refusal as Refusal
 use Rattle.ast.specs.Words.{ifb, up}
-use Rattle.producer.specs.declared.state.State.{State}
-use Rattle.producer.specs.declared.state.Two.{Two}
-use Rattle.producer.specs.declared.state.Two.the-variants.{Pair, Refused as Failed}
+use Rattle.producer.specs.declared.State.{State}
+use Rattle.producer.specs.declared.answers.Two.{Two}
+use Rattle.producer.specs.declared.answers.Two.the-variants.{Pair, Refused as Failed}
 use Rattle.producer.specs.Machine.{Machine, machine, new-state, fresh, Result, is, not}
 use Rattle.syntax.specs.declared.limits.Size.{Size}
 use Rattle.syntax.specs.declared.limits.Size.the-variants.{Fits, Refused, Bad, Short}

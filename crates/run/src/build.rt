@@ -7,9 +7,9 @@ ghost use Rattle.run.specs.Build.{byte-at, parts-of, built, built-one, b
 use ast::kinds;
 use ast::refusals;
 use ast::words::succ;
-use producer::state::Got;
-use producer::state::State;
-use producer::state::Two;
+use producer::State;
+use producer::answers::Got;
+use producer::answers::Two;
 
 // The deepest that a term nests, counted from 1.
 pub const DEPTH: u32 = 33;

@@ -9,9 +9,9 @@ use crate::build::scope;
 use crate::build::wide;
 use ast::kinds::NIL;
 use ast::words::succ;
-use producer::state::Got;
-use producer::state::State;
-use producer::state::Two;
+use producer::State;
+use producer::answers::Got;
+use producer::answers::Two;
 use syntax::CallHead;
 use syntax::calls;
 

@@ -13,7 +13,7 @@ pub mod Run
 pub mod Demand
 pub mod Sound
 pub mod Calls
-pub mod Concludes
+pub mod Bytes
 pub mod Opened
 pub mod Examples
 pub mod Pairs

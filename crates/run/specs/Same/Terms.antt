@@ -9,7 +9,7 @@ use Rattle.producer.specs.Machine.{W, _>>=_, when_then_else_, intern}
 use Rattle.walk.specs.Syntax.{Interval, I0, I1, Dim, Neg, Meet, Join, Term, Universe, Var, Nat, Zero, Pi, Lam, App, Path, PathLam, PathApp, Sigma, Pair, Fst, Snd}
 use Rattle.walk.specs.Reader.{got, Kind, k-u, k-v, k-nat, k-zero, k-pi, k-lam, k-app, k-path, k-plam, k-papp, k-sigma, k-pair, k-fst, k-snd, IKind, k-0, k-1, k-dim, k-neg, k-meet, k-join, read-interval, read-term}
 use Rattle.syntax.specs.Ends.{goes-byte, goes-interval, goes-term}
-use Rattle.syntax.specs.Kinds.{kind-byte, kind-is, ikind-byte, ikind-is}
+use Rattle.walk.specs.Bytes.{kind-byte, kind-is, ikind-byte, ikind-is}
 use Rattle.syntax.specs.Nodes.{interval-of, term-of, interval-node, term-node, a-part, a-byte, is-ok}
 use Rattle.link.specs.Asked.{build-interval, build-term}
 use Rattle.run.specs.Build.{byte-at, parts-of, made, Builder, built-one, built-two, built-three, built-body, built}

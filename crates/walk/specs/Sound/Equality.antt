@@ -13,7 +13,7 @@ use Rattle.walk.specs.Demand.{At, none-cited, _also_, same}
 use Rattle.walk.specs.Sound.Logic.{lift, _and_by_, bind, refusing, giving, branch, cases, emitted, Keeps}
 use Rattle.walk.specs.Sound.Says.{Stepped, Sound}
 use Rattle.walk.specs.Sound.Parts.{lam-is, plam-is, pair-is}
-use Rattle.walk.specs.Sound.Typing.{as-path-sound, subject-sound}
+use Rattle.walk.specs.Sound.Typing.{as-path-sound, as-sigma-sound}
 use Rattle.walk.specs.Rule as R
 
 -- two rules at equal quotes
@@ -53,13 +53,13 @@ module _ (c : Callees) (S : Sound c) where
   fst-beta-sound : {rs : List Row} (d : ℕ) (g : Context) (ty a b : Term) → Keeps rs (fst-beta c d g (Pair ty a b) a) (Stepped d g (Fst (Pair ty a b)))
   unfolding fst-beta
   fst-beta-sound d g ty a b =
-      bind (subject-sound c S d g (Pair ty a b)) λ o₁ _ _ h₁. bind (S .check d g a (o₁ .0 .0)) λ _ _ e₂ h₂.
+      bind (as-sigma-sound c S d g (Pair ty a b)) λ o₁ _ _ h₁. bind (S .check d g a (o₁ .0 .0)) λ _ _ e₂ h₂.
       bind (emitted (lift e₂ h₁ also h₂ also none-cited) by·eq·fst-beta) λ row _ _ h. giving _ λ _ e. lift e h
 
   snd-beta-sound : {rs : List Row} (d : ℕ) (g : Context) (ty a b : Term) → Keeps rs (snd-beta c d g (Pair ty a b) b) (Stepped d g (Snd (Pair ty a b)))
   unfolding snd-beta
   snd-beta-sound d g ty a b =
-      bind (subject-sound c S d g (Pair ty a b)) λ o₁ _ _ h₁. bind (S .transform (o₁ .0 .1) (Subst 0 (Fst (Pair ty a b)))) λ o₂ _ e₂ h₂.
+      bind (as-sigma-sound c S d g (Pair ty a b)) λ o₁ _ _ h₁. bind (S .transform (o₁ .0 .1) (Subst 0 (Fst (Pair ty a b)))) λ o₂ _ e₂ h₂.
       at-end-sound d g (Snd (Pair ty a b)) b (o₂ .0) (o₁ .1) (o₂ .1) R.eq·snd-beta (lift e₂ h₁) h₂ by·eq·snd-beta
 
   pub reduce-sound : {rs : List Row} (d : ℕ) (g : Context) (t : Term) → Keeps rs (reduce-body c d g t) (Stepped d g t)
@@ -74,7 +74,7 @@ module _ (c : Callees) (S : Sound c) where
   reduce-sound d g (Path a b e) = giving none λ _ _. tt
   reduce-sound d g (PathLam a b) = giving none λ _ _. tt
   reduce-sound d g (PathApp p r) =
-      bind (S .infer d g p) λ o₀ _ _ h₀. bind (as-path-sound c S d g p (o₀ .0) (o₀ .1) h₀) λ o₁ _ _ h₁. bind (S .transform (o₁ .0 .0) (DSubst 0 r)) λ o₂ _ e₂ h₂.
+      bind (as-path-sound c S d g p) λ o₁ _ _ h₁. bind (S .transform (o₁ .0 .0) (DSubst 0 r)) λ o₂ _ e₂ h₂.
       cases (plam-parts p)
       (λ ab q. pbeta-sound d g p r (ab .1) (o₁ .0 .0) (o₁ .0 .1) (o₁ .0 .2) (o₂ .0) (o₁ .1) (o₂ .1) (ap quote (plam-is p ab q)) (lift e₂ h₁) h₂)
       (λ _. ends-sound d g p r (o₁ .0 .0) (o₁ .0 .1) (o₁ .0 .2) (o₂ .0) (o₁ .1) (o₂ .1) (lift e₂ h₁) h₂)

@@ -8,7 +8,7 @@ use Rattle.walk.specs.Rule as R
 use Rattle.walk.specs.Refusal as Refusal
 use Rattle.walk.specs.State.{M, _>>=_, pure, refuse, if_then_else_, from_get_or_, emit}
 use Rattle.walk.specs.Walk.Reference.{Subst, DSubst, Step, Callees}
-use Rattle.walk.specs.Walk.Typing.{level, pi-parts, lam-parts, path-parts, plam-parts, sigma-parts, pair-parts, as-path, subject}
+use Rattle.walk.specs.Walk.Typing.{level, pi-parts, lam-parts, path-parts, plam-parts, sigma-parts, pair-parts, as-path, as-sigma}
 
 abbrev pub equation : ℕ → Context → Term → Term → Term → Judgment
 equation d g a b ty = eq d (quotes g) (quote a) (quote b) (quote ty)
@@ -51,14 +51,14 @@ ends c d g p (Join r q) b e ty x y = pure none
 -- the projections of the pair p, whose parts are a and b
 unfoldable pub fst-beta : Callees → ℕ → Context → Term → Term → M (Option Step)
 fst-beta c d g p a = do
-  (sigma, x) ← subject c d g p
+  (sigma, x) ← as-sigma c d g p
   typed ← c .check d g a (sigma .0)
   row ← emit R.eq·fst-beta (x ∷ typed ∷ []) (equation d g (Fst p) a (sigma .0))
   pure (some (record { term = a; type = sigma .0; row = row }))
 
 unfoldable pub snd-beta : Callees → ℕ → Context → Term → Term → M (Option Step)
 snd-beta c d g p b = do
-  (sigma, x) ← subject c d g p
+  (sigma, x) ← as-sigma c d g p
   (ty, y) ← c .transform (sigma .1) (Subst 0 (Fst p))
   at-end c d g (Snd p) b ty x y R.eq·snd-beta
 
@@ -73,8 +73,7 @@ reduce-body c d g (App f r) = from lam-parts f get (λ ab. beta c d g (ab .0) (a
 reduce-body c d g (Path a b e) = pure none
 reduce-body c d g (PathLam a b) = pure none
 reduce-body c d g (PathApp p r) = do
-  (pty, x₀) ← c .infer d g p
-  (path, x) ← as-path c d g p pty x₀
+  (path, x) ← as-path c d g p
   (ty, y) ← c .transform (path .0) (DSubst 0 r)
   from plam-parts p get (λ ab. pbeta c d g p r (ab .1) ty x y) or ends c d g p r (path .1) (path .2) ty x y
 reduce-body c d g (Sigma a b) = pure none

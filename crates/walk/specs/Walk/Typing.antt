@@ -89,15 +89,6 @@ expose-body c d g t ty typed = do
         row ← emit R.type·conv (typed ∷ equality ∷ formed ∷ []) (typing d g t normal)
         pure (normal, row)
 
-unfoldable pub universe-body : Callees → ℕ → Context → Term → M (ℕ × ℕ)
-universe-body c d g t = do
-  (ty, row) ← c .infer d g t
-  from level ty
-      get (λ l. pure (l, row))
-      or (converting do
-        (normal, row′) ← c .expose d g t ty row
-        from level normal get (λ l. pure (l, row′)) or refuse Refusal.no-type)
-
 unfoldable pub check-body : Callees → ℕ → Context → Term → Term → M ℕ
 check-body c d g t expected = do
   (actual, row) ← c .infer d g t
@@ -112,26 +103,30 @@ check-body c d g t expected = do
               emit R.type·conv (row ∷ equality ∷ formed ∷ []) (typing d g t expected))
             else refuse Refusal.levels
 
--- a type taken apart, its head exposed where it is not yet written so: the parts, and the term's row, which goes along
-unfoldable pub as-parts : {A : Type 0} → (Term → Option A) → ℕ → Callees → ℕ → Context → Term → Term → ℕ → M (A × ℕ)
-as-parts parts refusal c d g t ty row =
-    from parts ty
-    get (λ of. pure (of, row))
-    or (do
-      (ty′, row′) ← converting (c .expose d g t ty row)
-      from parts ty′ get (λ of. pure (of, row′)) or refuse refusal)
+-- the type of a term, its head exposed where it is not written as the kind wanted, and the row that the term has it
+unfoldable pub headed : Kind → Callees → ℕ → Context → Term → M (Term × ℕ)
+headed k c d g t = do
+  (ty, row) ← c .infer d g t
+  if Kind-discrete (view ty .kind) k then pure (ty, row) else converting (c .expose d g t ty row)
 
-abbrev pub as-pi : Callees → ℕ → Context → Term → Term → ℕ → M ((Term × Term) × ℕ)
-as-pi c d g f ty row = as-parts pi-parts Refusal.no-function c d g f ty row
+-- that type taken apart: its parts, and the row; refused where it is not of the kind even then
+unfoldable pub as-parts : {A : Type 0} → Kind → (Term → Option A) → ℕ → Callees → ℕ → Context → Term → M (A × ℕ)
+as-parts k parts refusal c d g t = do
+  (ty, row) ← headed k c d g t
+  from parts ty get (λ of. pure (of, row)) or refuse refusal
 
-abbrev pub as-path : Callees → ℕ → Context → Term → Term → ℕ → M ((Term × Term × Term) × ℕ)
-as-path c d g p ty row = as-parts path-parts Refusal.no-path c d g p ty row
+abbrev pub universe-body : Callees → ℕ → Context → Term → M (ℕ × ℕ)
+universe-body c d g t = as-parts k-u level Refusal.no-type c d g t
 
--- sigma.rs, `subject`: the parts of the sigma type that the subject of a projection has, and its row
-unfoldable pub subject : Callees → ℕ → Context → Term → M ((Term × Term) × ℕ)
-subject c d g p = do
-  (ty, row) ← c .infer d g p
-  as-parts sigma-parts Refusal.no-sigma c d g p ty row
+abbrev pub as-pi : Callees → ℕ → Context → Term → M ((Term × Term) × ℕ)
+as-pi c d g f = as-parts k-pi pi-parts Refusal.no-function c d g f
+
+abbrev pub as-path : Callees → ℕ → Context → Term → M ((Term × Term × Term) × ℕ)
+as-path c d g p = as-parts k-path path-parts Refusal.no-path c d g p
+
+-- sigma.rs, `subject`: the subject of a projection
+abbrev pub as-sigma : Callees → ℕ → Context → Term → M ((Term × Term) × ℕ)
+as-sigma c d g p = as-parts k-sigma sigma-parts Refusal.no-sigma c d g p
 
 -- what is found: its type takes cells at once
 unfoldable pub found : Term → List ℕ → ℕ → M Found
@@ -180,8 +175,7 @@ find c d g (Lam a body) = do
   (_, z) ← c .universe d (Cons a g) b
   found (Pi a b) (x ∷ y ∷ z ∷ []) R.type·lam
 find c d g (App f a) = do
-  (fty, x₀) ← c .infer d g f
-  (pi, x) ← as-pi c d g f fty x₀
+  (pi, x) ← as-pi c d g f
   y ← c .check d g a (pi .0)
   (out, z) ← c .transform (pi .1) (Subst 0 a)
   found out (x ∷ y ∷ z ∷ []) R.type·app
@@ -209,8 +203,7 @@ find c d g (PathLam a body) = do
   x₉ ← c .check d g t1 a1
   found (Path a t0 t1) (x₀ ∷ x₁ ∷ x₂ ∷ x₃ ∷ x₄ ∷ x₅ ∷ x₆ ∷ x₇ ∷ x₈ ∷ x₉ ∷ []) R.type·plam
 find c d g (PathApp p r) = do
-  (pty, x₀) ← c .infer d g p
-  (path, x) ← as-path c d g p pty x₀
+  (path, x) ← as-path c d g p
   y ← c .interval d r
   (out, z) ← c .transform (path .0) (DSubst 0 r)
   (_, w) ← c .universe d g out
@@ -218,11 +211,11 @@ find c d g (PathApp p r) = do
 find c d g (Sigma a b) = find-binder c d g a b R.type·sigma
 find c d g (Pair ty a b) = from sigma-parts ty get (λ of. find-pair c d g ty (of .0) (of .1) a b) or refuse Refusal.annotation
 find c d g (Fst p) = do
-  (sigma, x) ← subject c d g p
+  (sigma, x) ← as-sigma c d g p
   (_, y) ← c .universe d g (sigma .0)
   found (sigma .0) (x ∷ y ∷ []) R.type·fst
 find c d g (Snd p) = do
-  (sigma, x) ← subject c d g p
+  (sigma, x) ← as-sigma c d g p
   (out, y) ← c .transform (sigma .1) (Subst 0 (Fst p))
   (_, z) ← c .universe d g out
   found out (x ∷ y ∷ z ∷ []) R.type·snd

@@ -4,7 +4,7 @@ use mathlib.Core.Path.{refl}
 use borrow.Author.Needs.{needs}
 use Rattle.walk.specs.Reader.{k-0, k-1, k-dim, k-neg, k-meet, k-join, ikinds}
 use Rattle.syntax.specs.Parts.{iparts, of-kind, part, so-many}
-use Rattle.syntax.specs.Kinds.{ikind-byte, ikind-is}
+use Rattle.walk.specs.Bytes.{ikind-byte, ikind-is}
 use Rattle.syntax.proofs.Tables.{listed, none-such}
 use Rattle.syntax.proofs.parts.of_interval.Statement.{statement}
 use Rattle.syntax.proofs.parts.of_interval.Tie as tie

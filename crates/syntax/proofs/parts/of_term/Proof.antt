@@ -4,7 +4,7 @@ use mathlib.Core.Path.{refl}
 use borrow.Author.Needs.{needs}
 use Rattle.walk.specs.Reader.{k-u, k-v, k-nat, k-zero, k-pi, k-lam, k-app, k-path, k-plam, k-papp, k-sigma, k-pair, k-fst, k-snd, kinds}
 use Rattle.syntax.specs.Parts.{parts, of-kind, part, so-many}
-use Rattle.syntax.specs.Kinds.{kind-byte, kind-is}
+use Rattle.walk.specs.Bytes.{kind-byte, kind-is}
 use Rattle.syntax.proofs.Tables.{listed, none-such}
 use Rattle.syntax.proofs.parts.of_term.Statement.{statement}
 use Rattle.syntax.proofs.parts.of_term.Tie as tie

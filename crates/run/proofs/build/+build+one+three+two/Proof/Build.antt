@@ -8,7 +8,7 @@ use borrow.Author.Tests.{ne-eqb}
 use native.Mathlib.Omega.{arith}
 use Rattle.run.proofs.At as law
 use Rattle.ast.proofs.words.succ.Reads as succ-reads
-use Rattle.producer.proofs.state.State.intern.Reads as intern-reads
+use Rattle.producer.proofs.State.intern.Reads as intern-reads
 use Rattle.run.proofs.build.byte.Reads as byte-reads
 use Rattle.run.proofs.build.parts.Reads as parts-reads
 use Rattle.run.proofs.build.build.Reads as build

@@ -5,7 +5,7 @@ use Rattle.run.proofs.Steps.{steps}
 use Rattle.run.specs.Build.{built-one}
 use borrow.Author.Needs.{needs}
 use native.Mathlib.Omega.{arith}
-use Rattle.producer.proofs.state.State.intern.Reads as intern-reads
+use Rattle.producer.proofs.State.intern.Reads as intern-reads
 use Rattle.run.proofs.build.build.Reads as build
 use Rattle.run.proofs.build.one.Reads as one
 use Rattle.run.proofs.build.+build+one+three+two.Lts-one as lts

@@ -6,7 +6,7 @@ use Rattle.run.specs.Build.{scoped-body}
 use borrow.Author.Needs.{needs}
 use native.Mathlib.Omega.{arith}
 use Rattle.run.proofs.At as law
-use Rattle.producer.proofs.state.State.intern.Reads as intern-reads
+use Rattle.producer.proofs.State.intern.Reads as intern-reads
 use Rattle.run.proofs.build.build.Reads as build-reads
 use Rattle.run.proofs.build.scope.Reads as scope
 use Rattle.run.proofs.build.+scope.Lts-scope as lts
