@@ -112,6 +112,16 @@ def _():
     return out
 
 
+@section(OPEN, 'kinds of cells')
+def _():
+    return ['kind-shown %s = refl' % shape(k) for k in TERMS]
+
+
+@section(OPEN, 'kinds of bytes')
+def _():
+    return ['at-byte k-%s = refl' % k.tag for k in TERMS]
+
+
 @section(OPEN, 'which shape')
 def _():
     none = 'p-else (record { %s })' % '; '.join('no-%s = refl' % one_taken(k) for k in TAKEN)

@@ -19,7 +19,7 @@ use Rattle.link.specs.Holds.{Before}
 use Rattle.link.specs.Match.{Matches, both-refused, bind, giving, stopping, Same, cite-1, cite-2, cite-3, cite-5, cite-6, Returns, regrouped, given}
 use Rattle.link.specs.Open.{Node, opening-interval, opening-term, at-lam, at-plam, at-pair, same-quote}
 use Rattle.link.specs.Linked.{Linked, o-subst, o-dsubst, Steps, no-step, a-step, row-then, pair-then, number-then}
-use Rattle.link.specs.Typing.{emitting-eq, three-then, four-then, universe-of-cons, infer-of-cons, as-path-matches, subject-matches, transform-at-fst}
+use Rattle.link.specs.Typing.{emitting-eq, three-then, four-then, universe-of-cons, infer-of-cons, as-path-matches, as-sigma-matches, transform-at-fst}
 
 module _ {o : Before} {rd : M (Unit {0})} (c : Callees) (d : D.Callees) (L : Linked o rd c d) where
   -- root reductions
@@ -77,9 +77,7 @@ module _ {o : Before} {rd : M (Unit {0})} (c : Callees) (d : D.Callees) (L : Lin
   reduce-papp-matches : {xs : List Thing} {g t p r : ℕ} {g′ : Context} {p′ : Term} {r′ : Interval} (n : ℕ) → Cell g (context g′) xs → Cell t (term (PathApp p′ r′)) xs → Cell p (term p′) xs → Cell r (interval r′) xs → Matches o xs (P.reduce-papp c n g t p r) (B.reduce-body d n g′ (PathApp p′ r′)) Steps
   unfolding P.reduce-papp B.reduce-body
   reduce-papp-matches n g t p r =
-      pair-then _ _ (L .infer n g p) λ _ x₀ _ _ e₁ pty.
-      four-then _ _ (as-path-matches c d L n (cell-lift e₁ g) (cell-lift e₁ p) pty x₀) λ _ _ _ x _ _ _ _ e₂ a b e.
-      let f₂ = extends-trans e₁ e₂ in
+      four-then _ _ (as-path-matches c d L n g p) λ _ _ _ x _ _ _ _ f₂ a b e.
       pair-then _ _ (L .transform a (o-dsubst (cell-lift f₂ r))) λ _ z _ _ e₃ ty.
       let f₃ = extends-trans f₂ e₃ in
       at-plam _ _ (cell-lift f₃ p)
@@ -89,7 +87,7 @@ module _ {o : Before} {rd : M (Unit {0})} (c : Callees) (d : D.Callees) (L : Lin
   fst-beta-matches : {xs : List Thing} {g t p a : ℕ} {g′ : Context} {p′ a′ : Term} (n : ℕ) → Cell g (context g′) xs → Cell t (term (Fst p′)) xs → Cell p (term p′) xs → Cell a (term a′) xs → Matches o xs (P.fst-beta c n g t p a) (B.fst-beta d n g′ p′ a′) Steps
   unfolding P.fst-beta B.fst-beta
   fst-beta-matches n g t p a =
-      three-then _ _ (subject-matches c d L n g p) λ _ _ _ _ _ _ e₁ ta _.
+      three-then _ _ (as-sigma-matches c d L n g p) λ _ _ _ _ _ _ e₁ ta _.
       row-then (L .check n (cell-lift e₁ g) (cell-lift e₁ a) ta) λ _ _ e₂.
       let f₂ = extends-trans e₁ e₂ in
       row-then (emitting-eq _ n cite-2 (cell-lift f₂ g) (cell-lift f₂ t) (cell-lift f₂ a) (cell-lift e₂ ta)) λ _ _ e₃.
@@ -98,7 +96,7 @@ module _ {o : Before} {rd : M (Unit {0})} (c : Callees) (d : D.Callees) (L : Lin
   snd-beta-matches : {xs : List Thing} {g t p b : ℕ} {g′ : Context} {p′ b′ : Term} (n : ℕ) → Cell g (context g′) xs → Cell t (term (Snd p′)) xs → Cell p (term p′) xs → Cell b (term b′) xs → Matches o xs (P.snd-beta c n g t p b) (B.snd-beta d n g′ p′ b′) Steps
   unfolding P.snd-beta B.snd-beta
   snd-beta-matches n g t p b =
-      three-then _ _ (subject-matches c d L n g p) λ _ _ x _ _ _ e₁ _ tb.
+      three-then _ _ (as-sigma-matches c d L n g p) λ _ _ x _ _ _ e₁ _ tb.
       pair-then _ _ (transform-at-fst c d L tb (cell-lift e₁ p)) λ _ z _ _ e₂ ty.
       let f₂ = extends-trans e₁ e₂ in
       at-end-matches n x z _ (cell-lift f₂ g) (cell-lift f₂ t) (cell-lift f₂ b) ty

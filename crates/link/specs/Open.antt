@@ -1,10 +1,11 @@
 -- A cell is opened: what is done is matched for each kind of thing that it can hold.
 use Prim.Native.Nat.{ℕ}
-use mathlib.Core.Path.{_≡_, refl}
+use mathlib.Core.Path.{_≡_, refl, sym, _∙_, ap}
 use mathlib.Core.List.{List}
-use mathlib.Core.Option.{none}
+use mathlib.Core.Option.{none, some}
 use mathlib.Core.Bool.{true}
 use lib.Dec.{eqb, eqb→eq}
+use lib.ListN.{getD}
 use Rattle.ast.specs.Cells.{same-quote-of, shape-by, shape-of}
 use Rattle.ast.specs.declared.cells.Cell.{Cell as Words}
 use Rattle.ast.specs.declared.cells.Shape.{Shape as Form}
@@ -13,7 +14,9 @@ use Rattle.producer.specs.Machine.{W, open-cell}
 use Rattle.producer.specs.Machine as C
 use Rattle.walk.specs.Syntax.{Interval, I0, I1, Dim, Neg, Meet, Join, Term, Universe, Var, Nat, Zero, Pi, Lam, App, Path, PathLam, PathApp, Sigma, Pair, Fst, Snd, Context, Nil, Cons, Quote, quote, quote?}
 use Rattle.walk.specs.State.{Thing, term, interval, context, M, if_then_else_, from_get_or_}
-use Rattle.walk.specs.Walk.Typing.{level, pi-parts, lam-parts, path-parts, plam-parts, sigma-parts, pair-parts}
+use Rattle.walk.specs.Reader.{Kind, Kind-discrete, k-u, k-v, k-nat, k-zero, k-pi, k-lam, k-app, k-path, k-plam, k-papp, k-sigma, k-pair, k-fst, k-snd, kinds}
+use Rattle.walk.specs.Bytes.{kind-byte}
+use Rattle.walk.specs.Walk.Typing.{view, level, pi-parts, lam-parts, path-parts, plam-parts, sigma-parts, pair-parts}
 use Rattle.link.specs.Lists.{yes?}
 use Rattle.link.specs.Things.{a-quote, show, Cell, Low, low-same, low-number}
 use Rattle.link.specs.Tables.{Shape, s-universe, s-var, s-nat, s-zero, s-pi, s-lam, s-app, s-path, s-plam, s-papp, s-sigma, s-pair, s-fst, s-snd, s-i0, s-i1, s-dim, s-neg, s-meet, s-join, s-nil, s-cons}
@@ -139,6 +142,52 @@ parted q (s-fst x) = p-else (record { no-level = refl; no-pi = refl; no-lam = re
 parted q (s-snd x) = p-else (record { no-level = refl; no-pi = refl; no-lam = refl; no-path = refl; no-plam = refl; no-sigma = refl; no-pair = refl })
 
 -- end of which shape
+
+-- a cell's kind is the byte of its term's, and a byte is of one kind: both tests for a kind come out alike
+
+kind-shown : {xs : List Thing} {k a b c : ℕ} {t : Term} → Shape xs k a b c (term t) → k ≡ kind-byte (view t .kind)
+-- written by tools/written.py: kinds of cells
+kind-shown s-universe = refl
+kind-shown s-var = refl
+kind-shown s-nat = refl
+kind-shown s-zero = refl
+kind-shown (s-pi x y) = refl
+kind-shown (s-lam x y) = refl
+kind-shown (s-app x y) = refl
+kind-shown (s-path x y z) = refl
+kind-shown (s-plam x y) = refl
+kind-shown (s-papp x y) = refl
+kind-shown (s-sigma x y) = refl
+kind-shown (s-pair x y z) = refl
+kind-shown (s-fst x) = refl
+kind-shown (s-snd x) = refl
+
+-- end of kinds of cells
+
+at-byte : (k : Kind) → getD kinds (kind-byte k) none ≡ some k
+-- written by tools/written.py: kinds of bytes
+at-byte k-u = refl
+at-byte k-v = refl
+at-byte k-nat = refl
+at-byte k-zero = refl
+at-byte k-pi = refl
+at-byte k-lam = refl
+at-byte k-app = refl
+at-byte k-path = refl
+at-byte k-plam = refl
+at-byte k-papp = refl
+at-byte k-sigma = refl
+at-byte k-pair = refl
+at-byte k-fst = refl
+at-byte k-snd = refl
+
+-- end of kinds of bytes
+
+one-kind : (j k : Kind) → kind-byte j ≡ kind-byte k → j ≡ k
+one-kind j k q = let e : some j ≡ some k = sym (at-byte j) ∙ ap (λ b. getD kinds b none) q ∙ at-byte k in cc
+
+pub tested : {xs : List Thing} {n a b c : ℕ} {t : Term} (k : Kind) → Shape xs n a b c (term t) → eqb n (kind-byte k) ≡ yes? (Kind-discrete (view t .kind) k)
+tested {n = n} {t = t} k s = decides _ (Kind-discrete (view t .kind) k) (λ e. one-kind (view t .kind) k (sym (kind-shown s) ∙ eqb→eq n (kind-byte k) (rw e tt))) (λ q. rw (kind-shown s, q) (eqb-self (kind-byte k)))
 
 -- written by tools/written.py: taken apart
 module _ {A B : Type 0} {o : Before} {xs : List Thing} {Q : B → A → List Thing → Type 0} where

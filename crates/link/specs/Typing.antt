@@ -20,8 +20,10 @@ use Rattle.link.specs.Lists.{Extends, extends-trans}
 use Rattle.link.specs.Things.{Cell, cell-lift}
 use Rattle.link.specs.Tables.{j-has, j-eq}
 use Rattle.link.specs.Holds.{Before, equal}
-use Rattle.link.specs.Match.{Matches, bind, giving, stopping, branch, lowest-of-cell, the-term, the-context, _with_, having, Same, Cites, cite-1, cite-2, cite-3, cite-4, cite-6, cite-7, cite-10, emitting, Pairs, Returns, recalling, remembering, converting, preceding, following, regrouped, given, calling}
-use Rattle.link.specs.Open.{opening-term, at-universe, at-pi, at-path, at-sigma, same-quote}
+use Rattle.link.specs.Match.{Matches, bind, giving, stopping, opening, branch, lowest-of-cell, the-term, the-context, _with_, having, Same, Cites, cite-1, cite-2, cite-3, cite-4, cite-6, cite-7, cite-10, emitting, Pairs, Returns, recalling, remembering, converting, preceding, following, regrouped, given, calling}
+use Rattle.walk.specs.Reader.{Kind, k-u, k-pi, k-path, k-sigma}
+use Rattle.walk.specs.Bytes.{kind-byte}
+use Rattle.link.specs.Open.{opening-term, tested, at-universe, at-pi, at-path, at-sigma, same-quote}
 use Rattle.link.specs.Linked.{Linked, o-subst, o-dsubst, Alike, row-then, pair-then, number-then, bumping, larger-is, making-universe, making-nat, making-pi, making-path, making-fst, making-i0, making-i1, making-cons}
 
 -- rows by quotes
@@ -108,15 +110,6 @@ module _ {o : Before} {rd : M (Unit {0})} (c : Callees) (d : D.Callees) (L : Lin
       row-then (emitting-has _ n cite-3 (cell-lift f g) (cell-lift f t) (cell-lift e₃ normal)) λ _ _ e₄.
       giving _ _ λ _ f. record { left = cell-lift (extends-trans e₃ (extends-trans e₄ f)) normal; right = refl })
 
-  pub universe-matches : {xs : List Thing} {g t : ℕ} {g′ : Context} {t′ : Term} (n : ℕ) → Cell g (context g′) xs → Cell t (term t′) xs → Matches o xs (P.universe-body c n g t) (B.universe-body d n g′ t′) (Pairs Alike)
-  unfolding P.universe-body P.exposed B.universe-body
-  universe-matches n g t =
-      pair-then _ _ (L .infer n g t) λ _ row _ _ e₁ ty.
-      at-universe _ _ ty
-      (λ l _. giving _ _ λ _ _. record { left = refl; right = refl })
-      (converting (pair-then _ _ (L .expose n (cell-lift e₁ g) (cell-lift e₁ t) ty row) λ _ _ _ _ _ normal.
-      at-universe _ _ normal (λ l _. giving _ _ λ _ _. record { left = refl; right = refl }) (stopping _)))
-
   pub check-matches : {xs : List Thing} {g t y : ℕ} {g′ : Context} {t′ y′ : Term} (n : ℕ) → Cell g (context g′) xs → Cell t (term t′) xs → Cell y (term y′) xs → Matches o xs (P.check-body c n g t y) (B.check-body d n g′ t′ y′) Same
   unfolding P.check-body P.converted B.check-body
   check-matches n g t y =
@@ -133,30 +126,30 @@ module _ {o : Before} {rd : M (Unit {0})} (c : Callees) (d : D.Callees) (L : Lin
       emitting-has _ n cite-3 (cell-lift f₄ g) (cell-lift f₄ t) (cell-lift f₄ y))
       (λ _. stopping _)))
 
-  as-pi-matches : {xs : List Thing} {g t y : ℕ} {g′ : Context} {t′ y′ : Term} (n : ℕ) → Cell g (context g′) xs → Cell t (term t′) xs → Cell y (term y′) xs → (row : ℕ) → Matches o xs (P.as-pi c n g t y row) (B.as-pi d n g′ t′ y′ row) Three
-  unfolding P.as-pi P.opened B.as-parts
-  as-pi-matches n g t y row =
-      at-pi _ _ y
-      (λ _ _ _ _ _ a b. giving _ _ λ _ f. record { one = cell-lift f a; two = cell-lift f b; row = refl })
-      (pair-then _ _ (converting (L .expose n g t y row)) λ _ _ _ _ _ y′.
-      at-pi _ _ y′ (λ _ _ _ _ _ a b. giving _ _ λ _ f. record { one = cell-lift f a; two = cell-lift f b; row = refl }) (stopping _))
+  headed-matches : {xs : List Thing} {g t : ℕ} {g′ : Context} {t′ : Term} (n : ℕ) → Cell g (context g′) xs → Cell t (term t′) xs → (k : Kind) → Matches o xs (P.headed c (kind-byte k) n g t) (B.headed k d n g′ t′) (Returns term)
+  unfolding P.headed B.headed
+  headed-matches n g t k =
+      pair-then _ _ (L .infer n g t) λ _ row _ _ e₁ ty.
+      opening tt ty λ _ s _.
+      branch _ _ (tested k s)
+      (λ _. giving _ _ λ _ f. record { left = cell-lift f ty; right = refl })
+      (λ _. converting (L .expose n (cell-lift e₁ g) (cell-lift e₁ t) ty row))
 
-  pub as-path-matches : {xs : List Thing} {g t y : ℕ} {g′ : Context} {t′ y′ : Term} (n : ℕ) → Cell g (context g′) xs → Cell t (term t′) xs → Cell y (term y′) xs → (row : ℕ) → Matches o xs (P.as-path c n g t y row) (B.as-path d n g′ t′ y′ row) Four
-  unfolding P.as-path P.opened B.as-parts
-  as-path-matches n g t y row =
-      at-path _ _ y
-      (λ _ _ _ _ _ _ _ a b e. giving _ _ λ _ f. record { one = cell-lift f a; two = cell-lift f b; three = cell-lift f e; row = refl })
-      (pair-then _ _ (converting (L .expose n g t y row)) λ _ _ _ _ _ y′.
-      at-path _ _ y′ (λ _ _ _ _ _ _ _ a b e. giving _ _ λ _ f. record { one = cell-lift f a; two = cell-lift f b; three = cell-lift f e; row = refl }) (stopping _))
+  pub universe-matches : {xs : List Thing} {g t : ℕ} {g′ : Context} {t′ : Term} (n : ℕ) → Cell g (context g′) xs → Cell t (term t′) xs → Matches o xs (P.universe-body c n g t) (B.universe-body d n g′ t′) (Pairs Alike)
+  unfolding P.universe-body B.as-parts
+  universe-matches n g t = pair-then _ _ (headed-matches n g t k-u) λ _ _ _ _ _ ty. at-universe _ _ ty (λ l _. giving _ _ λ _ _. record { left = refl; right = refl }) (stopping _)
 
-  pub subject-matches : {xs : List Thing} {g p : ℕ} {g′ : Context} {p′ : Term} (n : ℕ) → Cell g (context g′) xs → Cell p (term p′) xs → Matches o xs (P.subject c n g p) (B.subject d n g′ p′) Three
-  unfolding P.subject P.opened B.subject B.as-parts
-  subject-matches n g p =
-      pair-then _ _ (L .infer n g p) λ _ row _ _ e₁ ty.
-      at-sigma _ _ ty
-      (λ _ _ _ _ _ a b. giving _ _ λ _ f. record { one = cell-lift f a; two = cell-lift f b; row = refl })
-      (pair-then _ _ (converting (L .expose n (cell-lift e₁ g) (cell-lift e₁ p) ty row)) λ _ _ _ _ _ ty′.
-      at-sigma _ _ ty′ (λ _ _ _ _ _ a b. giving _ _ λ _ f. record { one = cell-lift f a; two = cell-lift f b; row = refl }) (stopping _))
+  as-pi-matches : {xs : List Thing} {g t : ℕ} {g′ : Context} {t′ : Term} (n : ℕ) → Cell g (context g′) xs → Cell t (term t′) xs → Matches o xs (P.as-pi c n g t) (B.as-pi d n g′ t′) Three
+  unfolding P.as-pi B.as-parts
+  as-pi-matches n g t = pair-then _ _ (headed-matches n g t k-pi) λ _ _ _ _ _ ty. at-pi _ _ ty (λ _ _ _ _ _ a b. giving _ _ λ _ f. record { one = cell-lift f a; two = cell-lift f b; row = refl }) (stopping _)
+
+  pub as-path-matches : {xs : List Thing} {g t : ℕ} {g′ : Context} {t′ : Term} (n : ℕ) → Cell g (context g′) xs → Cell t (term t′) xs → Matches o xs (P.as-path c n g t) (B.as-path d n g′ t′) Four
+  unfolding P.as-path B.as-parts
+  as-path-matches n g t = pair-then _ _ (headed-matches n g t k-path) λ _ _ _ _ _ ty. at-path _ _ ty (λ _ _ _ _ _ _ _ a b e. giving _ _ λ _ f. record { one = cell-lift f a; two = cell-lift f b; three = cell-lift f e; row = refl }) (stopping _)
+
+  pub as-sigma-matches : {xs : List Thing} {g t : ℕ} {g′ : Context} {t′ : Term} (n : ℕ) → Cell g (context g′) xs → Cell t (term t′) xs → Matches o xs (P.as-sigma c n g t) (B.as-sigma d n g′ t′) Three
+  unfolding P.as-sigma B.as-parts
+  as-sigma-matches n g t = pair-then _ _ (headed-matches n g t k-sigma) λ _ _ _ _ _ ty. at-sigma _ _ ty (λ _ _ _ _ _ a b. giving _ _ λ _ f. record { one = cell-lift f a; two = cell-lift f b; row = refl }) (stopping _)
 
   founding : {xs : List Thing} {make : W ℕ} {l : Refs} {refs : List ℕ} (ty : Term) (rule : ℕ) → Cites l refs → Matches o xs make (count-all (of-term ty)) (λ n _. Cell n (term ty)) → Matches o xs (P.found make l rule) (B.found ty refs rule) Finds
   unfolding P.found B.found
@@ -204,9 +197,7 @@ module _ {o : Before} {rd : M (Unit {0})} (c : Callees) (d : D.Callees) (L : Lin
       number-then _ _ (universe-of-cons n (cell-lift f₂ a) (cell-lift f₂ g) y) λ _ _ _ e₃.
       founding _ _ cite-3 (making-pi (cell-lift (extends-trans f₂ e₃) a) (cell-lift e₃ y)))
       (λ _ _ _ _ _ _ f a.
-      pair-then _ _ (L .infer n g f) λ _ x₀ _ _ e₁ fty.
-      three-then _ _ (as-pi-matches n (cell-lift e₁ g) (cell-lift e₁ f) fty x₀) λ _ _ _ _ _ _ e₂ domain codomain.
-      let f₂ = extends-trans e₁ e₂ in
+      three-then _ _ (as-pi-matches n g f) λ _ _ _ _ _ _ f₂ domain codomain.
       row-then (L .check n (cell-lift f₂ g) (cell-lift f₂ a) domain) λ _ _ e₃.
       pair-then _ _ (L .transform (cell-lift e₃ codomain) (o-subst (cell-lift (extends-trans f₂ e₃) a))) λ _ _ _ _ _ out.
       founding _ _ cite-3 (having (the-term out) out))
@@ -242,9 +233,7 @@ module _ {o : Before} {rd : M (Unit {0})} (c : Callees) (d : D.Callees) (L : Lin
       let e = extends-trans e₆ e₇ in
       founding _ _ cite-10 (making-path (cell-lift (extends-trans f₆ e₇) a) (cell-lift e t0) (cell-lift e t1))))
       (λ _ _ _ _ _ _ p r.
-      pair-then _ _ (L .infer n g p) λ _ x₀ _ _ e₁ pty.
-      four-then _ _ (as-path-matches n (cell-lift e₁ g) (cell-lift e₁ p) pty x₀) λ _ _ _ _ _ _ _ _ e₂ a _ _.
-      let f₂ = extends-trans e₁ e₂ in
+      four-then _ _ (as-path-matches n g p) λ _ _ _ _ _ _ _ _ f₂ a _ _.
       row-then (L .interval n (cell-lift f₂ r)) λ _ _ e₃.
       let f₃ = extends-trans f₂ e₃ in
       pair-then _ _ (L .transform (cell-lift e₃ a) (o-dsubst (cell-lift f₃ r))) λ _ _ _ _ e₄ out.
@@ -253,11 +242,11 @@ module _ {o : Before} {rd : M (Unit {0})} (c : Callees) (d : D.Callees) (L : Lin
       (λ _ _ _ _ _ _ a b. find-binder-matches n _ g a b)
       (λ _ _ _ _ _ _ _ _ y a b. at-sigma _ _ y (λ _ _ _ _ _ ta tb. pair-typed-matches n g y ta tb a b) (stopping _))
       (λ _ _ _ _ p.
-      three-then _ _ (subject-matches n g p) λ _ _ _ _ _ _ e₁ ta _.
+      three-then _ _ (as-sigma-matches n g p) λ _ _ _ _ _ _ e₁ ta _.
       number-then _ _ (L .universe n (cell-lift e₁ g) ta) λ _ _ _ e₂.
       founding _ _ cite-2 (having (the-term (cell-lift e₂ ta)) (cell-lift e₂ ta)))
       (λ _ _ _ _ p.
-      three-then _ _ (subject-matches n g p) λ _ _ _ _ _ _ e₁ _ tb.
+      three-then _ _ (as-sigma-matches n g p) λ _ _ _ _ _ _ e₁ _ tb.
       pair-then _ _ (transform-at-fst tb (cell-lift e₁ p)) λ _ _ _ _ e₂ out.
       number-then _ _ (L .universe n (cell-lift (extends-trans e₁ e₂) g) out) λ _ _ _ e₃.
       founding _ _ cite-3 (having (the-term (cell-lift e₃ out)) (cell-lift e₃ out)))

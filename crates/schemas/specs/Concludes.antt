@@ -76,6 +76,7 @@ begins (dshift t k t′) = refl
 begins (dsubst t k r t′) = refl
 begins (has d g t A) = refl
 begins (eq d g a b A) = refl
+
 -- end of kinds by name
 
 counted : (js : List Judgment) → parts (of-judgments js) ≡ length js
@@ -84,8 +85,12 @@ counted (j ∷ js) = ap suc (counted js)
 
 -- the test of a line, and of the table
 
+-- a conclusion and ten premises
+abbrev most : ℕ
+most = 11
+
 abbrev fits : ℕ → Pattern → Bool
-fits rule p = starts p && (ends p && (eqb (place (first p) names) (kind-of rule) && leb (parts p) 11))
+fits rule p = starts p && (ends p && (eqb (place (first p) names) (kind-of rule) && leb (parts p) most))
 
 abbrev all-fit : List Line → Bool
 all-fit [] = true
@@ -105,11 +110,11 @@ said : {n : ℕ} (js : List Judgment) (j : Judgment) (e : Env) (rule : ℕ) (p :
 said js j e rule p t q i =
     let t₁ = both (starts p) _ t in
     let t₂ = both (ends p) _ (t₁ .1) in
-    let t₃ = both (eqb (place (first p) names) (kind-of rule)) (leb (parts p) 11) (t₂ .1) in
+    let t₃ = both (eqb (place (first p) names) (kind-of rule)) (leb (parts p) most) (t₂ .1) in
     let w : first (of-judgment j) ≡ first p = sym (ap first i) ∙ first-of e p (t₁ .0) in
     let m : suc (parts (of-judgments js)) ≡ parts p = sym (ap parts i) ∙ parts-of e p (t₂ .0) in
     let k = counted js in
-    let l : parts p ≤ 11 = leb→le _ _ (t₃ .1) in
+    let l : parts p ≤ most = leb→le _ _ (t₃ .1) in
     (sym (begins j) ∙ ap (λ x. place x names) w ∙ eqb→eq _ _ (t₃ .0) ∙ ap kind-of q, omega arith)
 
 said-in : {n : ℕ} (js : List Judgment) (j : Judgment) (ls : List Line) → T (all-fit ls) → Instance n (step js j) ls → (kind j ≡ kind-of n) × (length js ≤ 10)

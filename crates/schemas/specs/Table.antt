@@ -1,4 +1,5 @@
--- The rules as texts: premises, then the conclusion. A rule with several lists of premises has several lines.
+-- The rules as texts, in the notation of Parse: premises, then the conclusion. A rule with several lists of premises has several lines.
+-- The table need not be believed: Follows proves that it says what the rules of `walk` say, both ways.
 use Prim.Native.Nat.{ℕ}
 use Prim.Native.String.{String}
 use mathlib.Core.List.{List, [], _∷_, _++_}
