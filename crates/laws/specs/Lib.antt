@@ -7,5 +7,7 @@ pub mod Substs
 pub mod Tops
 pub mod Results
 pub mod Program
+pub mod Stores
+pub mod Inside
 pub mod Laws
 pub mod Examples

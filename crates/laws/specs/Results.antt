@@ -22,7 +22,7 @@ use Rattle.laws.specs.Squares.{lifted-is}
 use Rattle.laws.specs.Tops.{place-top, call-top, icall-top, under-top}
 
 -- m gives what Q says, or is refused; and e does what m does
-abbrev Gave : {A : Type 0} → (A → Type 0) → Outcome A → Type 0
+abbrev pub Gave : {A : Type 0} → (A → Type 0) → Outcome A → Type 0
 Gave Q (done a s) = Q a
 Gave Q (refused n s) = Unit {0}
 

@@ -42,7 +42,7 @@ results-lift e no-word = no-word
 results-lift e (level-word q) = level-word q
 results-lift e (term-word c) = term-word (cell-lift e c)
 
-says-lift : {xs ys : List Thing} {a : Said} {b : Answer} → Extends xs ys → Says xs a b → Says ys a b
+pub says-lift : {xs ys : List Thing} {a : Said} {b : Answer} → Extends xs ys → Says xs a b → Says ys a b
 says-lift e s = record { number = s .number; row = s .row; deepest = s .deepest; result = results-lift e (s .result) }
 
 -- what a call leaves
@@ -58,7 +58,7 @@ pub record Fits {A C : Type 0} (row : C → ℕ) (result : C → ℕ) (row′ : 
   pub same-result : Results xs (result c) (result′ a)
 
 module _ {A C : Type 0} {o : Before} {xs : List Thing} {Q : C → A → List Thing → Type 0} (row : C → ℕ) (result : C → ℕ) (row′ : A → ℕ) (result′ : A → R.Result) (f : (c : C) (a : A) (ys : List Thing) → Q c a ys → Fits row result row′ result′ c a ys) where
-  leaves : {r : Result C} {d : Outcome A} → Ends o xs Q r d → Leaves o xs (told row result r) (answered row′ result′ d)
+  pub leaves : {r : Result C} {d : Outcome A} → Ends o xs Q r d → Leaves o xs (told row result r) (answered row′ result′ d)
   unfolding told answered
   leaves (in-value {a = a} {b = c} {s = s} e h g q) = let p = f c a (s .cells) q in record { extends = e; holds = h; fit = g; says = record { number = refl; row = p .same-row; deepest = ap (λ (n : Counts). n .deepest) (h .counts); result = p .same-result } }
   leaves (in-refusal e h g) = record { extends = e; holds = h; fit = g; says = record { number = refl; row = refl; deepest = ap (λ (n : Counts). n .deepest) (h .counts); result = no-word } }
@@ -73,11 +73,11 @@ asked n c-normalise d g ts l i k f h = leaves _ _ _ _ (λ c a ys q. record { sam
 asked n c-equal d g ts l i k f h = leaves _ _ _ _ (λ c a ys q. record { same-row = q; same-result = no-word }) (equalled n d g (nth ts 0) (nth ts 1) (nth ts 2) l i (nth-low ts 0 k) (nth-low ts 1 k) (nth-low ts 2 k) f h)
 
 -- deepest starts from 0
-afresh-holds : {o : Before} {w : Machine} {s : State} → Holds o w s → Holds o (afresh w) (with-deepest 0 s)
+pub afresh-holds : {o : Before} {w : Machine} {s : State} → Holds o w s → Holds o (afresh w) (with-deepest 0 s)
 unfolding afresh with-deepest
 afresh-holds h = record { words = h .words; counts = rw (h .counts); cells-fit = h .cells-fit; rows-fit = h .rows-fit; rows-index = h .rows-index; cells-index = h .cells-index }
 
-turned-leaves : {o : Before} {w : Machine} {s : State} (n : ℕ) → Fit s → Holds o w s → Leaves o (s .cells) (turned n, w) (R.refusal n 0, s)
+pub turned-leaves : {o : Before} {w : Machine} {s : State} (n : ℕ) → Fit s → Holds o w s → Leaves o (s .cells) (turned n, w) (R.refusal n 0, s)
 turned-leaves n f h = record { extends = same; holds = h; fit = f; says = record { number = refl; row = refl; deepest = refl; result = no-word } }
 
 pub asked-sized : {o : Before} {w : Machine} {s : State} (call : Call) → Fit s → Holds o w s → Leaves o (s .cells) (ask-sized (size-call call) call w) (play call s)
