@@ -1,10 +1,10 @@
 -- Inside a run: each call of `transform` or `itransform` that a run makes, and that is not refused, gives a cell that reads back as what
--- the function of Transforms makes of what its arguments read back as. It is said by a check. The run is played with functions that, after
--- each such call, read the words back, compare, and stop the call with the number N where they differ; and this run answers as the walk
--- does, whatever N is: `run-checked`. So no check ever fails.
-use Prim.Native.Nat.{ℕ, suc, _+_, _≤_}
-use mathlib.Core.Path.{_≡_, refl, sym, subst, ap}
-use mathlib.Core.List.{List, [], _∷_}
+-- the function of Transforms makes of what its arguments read back as. It is said by a check: calls are played with functions that, after
+-- each such call, read the words back, compare, and stop the call with the number N where they differ; and each call of the run answers as
+-- it does without checks, whatever N is: `run-checked`. So no check ever fails.
+use Prim.Native.Nat.{ℕ, suc}
+use mathlib.Core.Path.{_≡_, refl, sym, subst, ap, _∙_}
+use mathlib.Core.List.{List, _∷_, _++_}
 use mathlib.Core.Option.{Option, none, some}
 use mathlib.Core.Bool.{Bool, true, false}
 use native.Mathlib.Omega.{arith}
@@ -18,31 +18,27 @@ use Rattle.producer.specs.declared.state.State.{State as Counts}
 use Rattle.producer.specs.Machine.{Machine, Result, is, not}
 use Rattle.producer.specs.Callees.{Callees}
 use Rattle.producer.specs.Calls as P
-use Rattle.walk.specs.Syntax.{Interval, Term, Context, Nil, interval?, term?}
+use Rattle.walk.specs.Syntax.{Interval, Term, Nil, interval?, term?}
 use Rattle.walk.specs.State.{State, Thing, term, interval, Outcome, M, with-deepest}
 use Rattle.walk.specs.Walk.Reference as D
 use Rattle.walk.specs.Walk.Reference.{Op, Shift, Subst, DShift, DSubst, IOp, IShift, ISubst}
 use Rattle.walk.specs.Walk as B
-use Rattle.walk.specs.Refusal as Refusal
-use Rattle.walk.specs.Reader.{Code, c-context, c-universe, c-infer, c-check, c-normalise, c-equal, Call}
-use Rattle.walk.specs.Limits.{Sized, fits, scope-over, size-over, index-over, size-call}
-use Rattle.walk.specs.Run.{scope-of, nth, walk, play-sized, play, play-all, run}
+use Rattle.walk.specs.Reader.{Call}
+use Rattle.walk.specs.Limits.{fits, size-call}
+use Rattle.walk.specs.Run.{scope-of, play-sized, play, run}
 use Rattle.walk.specs.Run as R
-use Rattle.order.specs.Numbers.{context-top}
-use Rattle.order.specs.Guarded.{word, bump, guarded}
-use Rattle.order.specs.Bound.{Fit, bounds}
-use Rattle.order.specs.Sent.{Lows, nth-low, scope-low, let-in}
-use Rattle.order.specs.Never.{start-fits}
-use Rattle.link.specs.Lists.{Extends, same, extends-trans, yes?}
-use Rattle.link.specs.Things.{Cell, cell-lift}
+use Rattle.order.specs.Guarded.{word, guarded}
+use Rattle.order.specs.Bound.{Fit}
+use Rattle.order.specs.Sent.{scope-low, let-in}
+use Rattle.link.specs.Lists.{yes?}
+use Rattle.link.specs.Things.{Cell, cell-lift, cell-number}
 use Rattle.link.specs.Holds.{Before, Holds}
-use Rattle.link.specs.Match.{Agree, both-done, both-refused, by-guard, Matches, Returns}
+use Rattle.link.specs.Match.{Agree, both-done, both-refused, by-guard, Returns}
 use Rattle.link.specs.Linked.{Linked, Ops, o-shift, o-subst, o-dshift, o-dsubst, ops-lift, IOps, i-shift, i-subst, iops-lift}
 use Rattle.link.specs.Link.{ready, linked-none, linked-entered}
-use Rattle.link.specs.Asked.{Said, turned, afresh, ask, start}
-use Rattle.link.specs.Calls.{call-ctx-matches, call-universe-matches, call-infer-matches, call-check-matches, call-normalize-matches, call-equal-matches}
-use Rattle.link.specs.Ends.{starts, ends}
-use Rattle.link.specs.Runs.{no-word, level-word, term-word, Leaves, leaves, afresh-holds, turned-leaves, says-lift, none-say, says-on, Ends-run}
+use Rattle.link.specs.Asked.{Said, afresh, ask, ask-sized, ask-all, start}
+use Rattle.link.specs.Runs.{no-word, level-word, term-word, Says, Leaves, asked, afresh-holds, asked-sized, runs}
+use Rattle.link.specs.Runs.{Results as Words}
 use Rattle.link.specs.Table.{_>>=_, term-at, interval-at}
 use Rattle.link.specs.Back.{cell-back}
 use Rattle.laws.specs.Transforms.{itransform, transform}
@@ -112,20 +108,9 @@ unfoldable pub checking : ℕ → ℕ → Callees
 checking N ℕ.zero = with-checks N P.none-left
 checking N (ℕ.suc n) = with-checks N (P.entered n (checking N n))
 
--- a run with checks, as `ask-all` of `link` has it without them
-
-unfoldable pub checked-sized : ℕ → Sized → Call → Machine → Said × Machine
-checked-sized N scope-over call w = (turned Refusal.scope, w)
-checked-sized N size-over call w = (turned Refusal.size, w)
-checked-sized N index-over call w = (turned Refusal.index, w)
-checked-sized N (fits n) call w = ask (checking N (w .state .limit)) (call .code) (call .dims) (scope-of Nil (call .types)) (call .terms) (afresh w)
-
-unfoldable pub checked-all : ℕ → List Call → Machine → List Said × Machine
-checked-all N [] w = ([], w)
-checked-all N (call ∷ calls) w =
-    let (said, w′) = checked-sized N (size-call call) call w in
-    let (saids, w″) = checked-all N calls w′ in
-    (said ∷ saids, w″)
+-- a call of a run, as `ask-sized` of `link` has it, with checks
+unfoldable pub checked-call : ℕ → Call → Machine → Said × Machine
+checked-call N call w = ask (checking N (w .state .limit)) (call .code) (call .dims) (scope-of Nil (call .types)) (call .terms) (afresh w)
 
 -- no check fails
 
@@ -216,69 +201,42 @@ checking-linked N (ℕ.suc n) =
     with-checks-linked N (suc n) (P.entered n (checking N n)) (guarded (suc n)) (guarded-results word (suc n))
     (linked-entered n (checking N n) (guarded n) (checking-linked N n))
 
--- each call, and the run
+-- the answer's words are determined by the walk's answer
+results-same : {xs : List Thing} {n m : ℕ} {r : R.Result} → Words xs n r → Words xs m r → n ≡ m
+results-same no-word no-word = refl
+results-same (level-word e) (level-word f) = e ∙ sym f
+results-same (term-word c) (term-word d) = cell-number c d
 
-module _ (N : ℕ) {o : Before} where
-  checked-asked :
-      {w : Machine} {s : State} (n : ℕ) (code : Code) (d : ℕ) (g : Context) (ts : List Term) →
-      d + n ≤ 4200 → context-top g ≤ 32 → Lows ts → Fit s → Holds o w s →
-      Leaves o (s .cells) (ask (checking N n) code d g ts w) (walk (B.callees n) code d g ts s)
-  unfolding ask walk
-  checked-asked n c-context d g ts l i k f h =
-      leaves _ _ _ _ (λ c a ys q. record { same-row = q; same-result = no-word })
-      (ends (call-ctx-matches (checking N n) (guarded n) (checking-linked N n) d g) (bounds n (omega arith) .ctx d g (omega arith)) f h)
-  checked-asked n c-universe d g ts l i k f h =
-      let x = nth-low ts 0 k in
-      leaves _ _ _ _ (λ c a ys q. record { same-row = q .right; same-result = level-word (q .left) })
-      (ends (call-universe-matches (checking N n) (guarded n) (checking-linked N n) d g (nth ts 0)) (bounds n (omega arith) .universe d g (nth ts 0) (omega arith)) f h)
-  checked-asked n c-infer d g ts l i k f h =
-      let x = nth-low ts 0 k in
-      leaves _ _ _ _ (λ c a ys q. record { same-row = q .right; same-result = term-word (q .left) })
-      (ends (call-infer-matches (checking N n) (guarded n) (checking-linked N n) d g (nth ts 0)) (bounds n (omega arith) .infer d g (nth ts 0) (omega arith)) f h)
-  checked-asked n c-check d g ts l i k f h =
-      let x = nth-low ts 0 k in let y = nth-low ts 1 k in
-      leaves _ _ _ _ (λ c a ys q. record { same-row = q; same-result = no-word })
-      (ends (call-check-matches (checking N n) (guarded n) (checking-linked N n) d g (nth ts 0) (nth ts 1)) (bounds n (omega arith) .check d g (nth ts 0) (nth ts 1) (omega arith)) f h)
-  checked-asked n c-normalise d g ts l i k f h =
-      let x = nth-low ts 0 k in let y = nth-low ts 1 k in
-      leaves _ _ _ _ (λ c a ys q. record { same-row = q .right; same-result = term-word (q .left) })
-      (ends (call-normalize-matches (checking N n) (guarded n) (checking-linked N n) d g (nth ts 0) (nth ts 1)) (bounds n (omega arith) .normalize d g (nth ts 0) (nth ts 1) (omega arith)) f h)
-  checked-asked n c-equal d g ts l i k f h =
-      let x = nth-low ts 0 k in let y = nth-low ts 1 k in let z = nth-low ts 2 k in
-      leaves _ _ _ _ (λ c a ys q. record { same-row = q; same-result = no-word })
-      (ends (call-equal-matches (checking N n) (guarded n) (checking-linked N n) d g (nth ts 0) (nth ts 1) (nth ts 2)) (bounds n (omega arith) .equal d g (nth ts 0) (nth ts 1) (nth ts 2) (omega arith)) f h)
+says-same : {xs : List Thing} {a b : Said} {answer : R.Answer} → Says xs a answer → Says xs b answer → a ≡ b
+says-same h k = λ i. record {
+  number = (h .number ∙ sym (k .number)) i;
+  row = (h .row ∙ sym (k .row)) i;
+  result = results-same (h .result) (k .result) i;
+  deepest = (h .deepest ∙ sym (k .deepest)) i;
+}
 
-  checked-call : {w : Machine} {s : State} (call : Call) → Fit s → Holds o w s → Leaves o (s .cells) (checked-sized N (size-call call) call w) (play call s)
-  unfolding play play-sized checked-sized with-deepest
-  checked-call {w} {s} call f h = go (size-call call) refl
-    where
-      go : (z : Sized) → size-call call ≡ z → Leaves o (s .cells) (checked-sized N z call w) (play-sized z call s)
-      go scope-over e = turned-leaves _ f h
-      go size-over e = turned-leaves _ f h
-      go index-over e = turned-leaves _ f h
-      go (fits n) e =
-          let k = let-in call n e in
-          let d = k .dims in
-          let l = f .low in
-          subst (λ (m : ℕ). Leaves o (s .cells) (ask (checking N m) (call .code) (call .dims) (scope-of Nil (call .types)) (call .terms) (afresh w)) (walk (B.callees (s .limit)) (call .code) (call .dims) (scope-of Nil (call .types)) (call .terms) (with-deepest 0 s))) (ap (λ (n : Counts). n .limit) (sym (h .counts))) (checked-asked {s = with-deepest 0 s} (s .limit) (call .code) (call .dims) (scope-of Nil (call .types)) (call .terms) (omega arith) (scope-low Nil (call .types) (omega arith) (k .types)) (k .terms) f (afresh-holds h))
+checked-says :
+    {o : Before} {w : Machine} {s : State} (N : ℕ) (call : Call) (n : ℕ) → size-call call ≡ fits n → Fit s → Holds o w s →
+    Leaves o (s .cells) (checked-call N call w) (play call s)
+unfolding checked-call play play-sized with-deepest
+checked-says {o} {w} {s} N call n e f h =
+    let k = let-in call n e in
+    let d = k .dims in
+    let l = f .low in
+    let g = scope-of Nil (call .types) in
+    let same-limit : s .limit ≡ w .state .limit = ap (λ (c : Counts). c .limit) (sym (h .counts)) in
+    rw e (subst (λ (m : ℕ). Leaves o (s .cells) (ask (checking N m) (call .code) (call .dims) g (call .terms) (afresh w)) (play-sized (fits n) call s)) same-limit
+    (asked {s = with-deepest 0 s} (s .limit) (checking-linked N (s .limit)) (call .code) (call .dims) g (call .terms)
+    (omega arith) (scope-low Nil (call .types) (omega arith) (k .types)) (k .terms) f (afresh-holds h)))
 
-  checked-calls : {w : Machine} {s : State} (calls : List Call) → Fit s → Holds o w s → Ends-run o (s .cells) (checked-all N calls w) (play-all calls s)
-  unfolding checked-all play-all
-  checked-calls [] f h = record { extends = same; holds = h; fit = f; says = none-say }
-  checked-calls (call ∷ calls) f h =
-      let a = checked-call call f h in
-      let b = checked-calls calls (a .fit) (a .holds) in
-      record { extends = extends-trans (a .extends) (b .extends); holds = b .holds; fit = b .fit; says = says-on (says-lift (b .extends) (a .says)) (b .says) }
-
--- For all bytes and all slices, and any N: each call's answer says what the walk answers, and the words that are left stand for what the
--- walk leaves.
+-- For all bytes and all slices: each call of a run that is let in, from what the calls before it left, gives the same answer with checks as
+-- without, whatever the number N is that a check would stop it with.
 pub run-checked :
-    (N : ℕ) (rows cells answers bytes : List ℕ) →
+    (N : ℕ) (rows cells answers bytes : List ℕ) (first others : List Call) (call : Call) (n : ℕ) →
     let ran = run (length rows) (length cells) (length answers) bytes in
-    Ends-run (record { rows = rows; cells = cells }) [] (checked-all N (ran .calls) (start (ran .limit) rows cells)) (play-all (ran .calls) (R.start (ran .limit) (length rows) (length cells)))
-unfolding R.start
-run-checked N rows cells answers bytes =
-    let ran = run (length rows) (length cells) (length answers) bytes in
-    checked-calls N (ran .calls)
-    (start-fits (ran .limit) (length rows) (length cells) (limit-most (length rows) (length cells) (length answers) bytes))
-    (starts (ran .limit) rows cells)
+    ran .calls ≡ first ++ call ∷ others → size-call call ≡ fits n →
+    let w = ask-all first (start (ran .limit) rows cells) .1 in
+    checked-call N call w .0 ≡ ask-sized (size-call call) call w .0
+run-checked N rows cells answers bytes first others call n q e =
+    let r = runs _ rows cells first (limit-most (length rows) (length cells) (length answers) bytes) in
+    says-same (checked-says N call n e (r .fit) (r .holds) .says) (asked-sized call (r .fit) (r .holds) .says)

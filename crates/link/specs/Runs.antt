@@ -7,6 +7,7 @@ use native.Mathlib.Omega.{arith}
 use lib.ListN.{length}
 use Rattle.producer.specs.declared.state.State.{State as Counts}
 use Rattle.producer.specs.Machine.{Machine, Result}
+use Rattle.producer.specs.Callees.{Callees}
 use Rattle.producer.specs.Calls.{callees}
 use Rattle.walk.specs.Syntax.{Term, Context, Nil}
 use Rattle.walk.specs.State.{State, Thing, term, Outcome, with-deepest}
@@ -16,12 +17,15 @@ use Rattle.walk.specs.Limits.{Sized, fits, scope-over, size-over, index-over, s
 use Rattle.walk.specs.Run.{no-result, a-level, a-term, Answer, answered, scope-of, nth, walk, play-sized, play, play-all}
 use Rattle.walk.specs.Run as R
 use Rattle.order.specs.Numbers.{context-top}
+use Rattle.order.specs.Guarded.{guarded}
 use Rattle.order.specs.Bound.{Fit}
 use Rattle.order.specs.Sent.{Lows, nth-low, scope-low, let-in}
 use Rattle.order.specs.Never.{start-fits}
 use Rattle.link.specs.Lists.{Extends, same, extends-trans}
 use Rattle.link.specs.Things.{Cell, cell-lift}
 use Rattle.link.specs.Holds.{Before, Holds}
+use Rattle.link.specs.Linked.{Linked}
+use Rattle.link.specs.Link.{ready, link}
 use Rattle.link.specs.Asked.{Said, told, ask, turned, afresh, ask-sized, ask-all, start}
 use Rattle.link.specs.Ends.{starts, Ends, in-value, in-refusal, contexted, levelled, inferred, checked, normalised, equalled}
 
@@ -42,7 +46,7 @@ results-lift e no-word = no-word
 results-lift e (level-word q) = level-word q
 results-lift e (term-word c) = term-word (cell-lift e c)
 
-pub says-lift : {xs ys : List Thing} {a : Said} {b : Answer} → Extends xs ys → Says xs a b → Says ys a b
+says-lift : {xs ys : List Thing} {a : Said} {b : Answer} → Extends xs ys → Says xs a b → Says ys a b
 says-lift e s = record { number = s .number; row = s .row; deepest = s .deepest; result = results-lift e (s .result) }
 
 -- what a call leaves
@@ -58,26 +62,27 @@ pub record Fits {A C : Type 0} (row : C → ℕ) (result : C → ℕ) (row′ : 
   pub same-result : Results xs (result c) (result′ a)
 
 module _ {A C : Type 0} {o : Before} {xs : List Thing} {Q : C → A → List Thing → Type 0} (row : C → ℕ) (result : C → ℕ) (row′ : A → ℕ) (result′ : A → R.Result) (f : (c : C) (a : A) (ys : List Thing) → Q c a ys → Fits row result row′ result′ c a ys) where
-  pub leaves : {r : Result C} {d : Outcome A} → Ends o xs Q r d → Leaves o xs (told row result r) (answered row′ result′ d)
+  leaves : {r : Result C} {d : Outcome A} → Ends o xs Q r d → Leaves o xs (told row result r) (answered row′ result′ d)
   unfolding told answered
   leaves (in-value {a = a} {b = c} {s = s} e h g q) = let p = f c a (s .cells) q in record { extends = e; holds = h; fit = g; says = record { number = refl; row = p .same-row; deepest = ap (λ (n : Counts). n .deepest) (h .counts); result = p .same-result } }
   leaves (in-refusal e h g) = record { extends = e; holds = h; fit = g; says = record { number = refl; row = refl; deepest = ap (λ (n : Counts). n .deepest) (h .counts); result = no-word } }
 
-asked : {o : Before} {w : Machine} {s : State} (n : ℕ) (code : Code) (d : ℕ) (g : Context) (ts : List Term) → d + n ≤ 4200 → context-top g ≤ 32 → Lows ts → Fit s → Holds o w s → Leaves o (s .cells) (ask (callees n) code d g ts w) (walk (walk-callees n) code d g ts s)
+-- over any functions that match the guarded walk's
+pub asked : {o : Before} {w : Machine} {s : State} {c : Callees} (n : ℕ) → Linked o (ready n) c (guarded n) → (code : Code) (d : ℕ) (g : Context) (ts : List Term) → d + n ≤ 4200 → context-top g ≤ 32 → Lows ts → Fit s → Holds o w s → Leaves o (s .cells) (ask c code d g ts w) (walk (walk-callees n) code d g ts s)
 unfolding ask walk
-asked n c-context d g ts l i k f h = leaves _ _ _ _ (λ c a ys q. record { same-row = q; same-result = no-word }) (contexted n d g l i f h)
-asked n c-universe d g ts l i k f h = leaves _ _ _ _ (λ c a ys q. record { same-row = q .right; same-result = level-word (q .left) }) (levelled n d g (nth ts 0) l i (nth-low ts 0 k) f h)
-asked n c-infer d g ts l i k f h = leaves _ _ _ _ (λ c a ys q. record { same-row = q .right; same-result = term-word (q .left) }) (inferred n d g (nth ts 0) l i (nth-low ts 0 k) f h)
-asked n c-check d g ts l i k f h = leaves _ _ _ _ (λ c a ys q. record { same-row = q; same-result = no-word }) (checked n d g (nth ts 0) (nth ts 1) l i (nth-low ts 0 k) (nth-low ts 1 k) f h)
-asked n c-normalise d g ts l i k f h = leaves _ _ _ _ (λ c a ys q. record { same-row = q .right; same-result = term-word (q .left) }) (normalised n d g (nth ts 0) (nth ts 1) l i (nth-low ts 0 k) (nth-low ts 1 k) f h)
-asked n c-equal d g ts l i k f h = leaves _ _ _ _ (λ c a ys q. record { same-row = q; same-result = no-word }) (equalled n d g (nth ts 0) (nth ts 1) (nth ts 2) l i (nth-low ts 0 k) (nth-low ts 1 k) (nth-low ts 2 k) f h)
+asked n L c-context d g ts l i k f h = leaves _ _ _ _ (λ c a ys q. record { same-row = q; same-result = no-word }) (contexted n L d g l i f h)
+asked n L c-universe d g ts l i k f h = leaves _ _ _ _ (λ c a ys q. record { same-row = q .right; same-result = level-word (q .left) }) (levelled n L d g (nth ts 0) l i (nth-low ts 0 k) f h)
+asked n L c-infer d g ts l i k f h = leaves _ _ _ _ (λ c a ys q. record { same-row = q .right; same-result = term-word (q .left) }) (inferred n L d g (nth ts 0) l i (nth-low ts 0 k) f h)
+asked n L c-check d g ts l i k f h = leaves _ _ _ _ (λ c a ys q. record { same-row = q; same-result = no-word }) (checked n L d g (nth ts 0) (nth ts 1) l i (nth-low ts 0 k) (nth-low ts 1 k) f h)
+asked n L c-normalise d g ts l i k f h = leaves _ _ _ _ (λ c a ys q. record { same-row = q .right; same-result = term-word (q .left) }) (normalised n L d g (nth ts 0) (nth ts 1) l i (nth-low ts 0 k) (nth-low ts 1 k) f h)
+asked n L c-equal d g ts l i k f h = leaves _ _ _ _ (λ c a ys q. record { same-row = q; same-result = no-word }) (equalled n L d g (nth ts 0) (nth ts 1) (nth ts 2) l i (nth-low ts 0 k) (nth-low ts 1 k) (nth-low ts 2 k) f h)
 
 -- deepest starts from 0
 pub afresh-holds : {o : Before} {w : Machine} {s : State} → Holds o w s → Holds o (afresh w) (with-deepest 0 s)
 unfolding afresh with-deepest
 afresh-holds h = record { words = h .words; counts = rw (h .counts); cells-fit = h .cells-fit; rows-fit = h .rows-fit; rows-index = h .rows-index; cells-index = h .cells-index }
 
-pub turned-leaves : {o : Before} {w : Machine} {s : State} (n : ℕ) → Fit s → Holds o w s → Leaves o (s .cells) (turned n, w) (R.refusal n 0, s)
+turned-leaves : {o : Before} {w : Machine} {s : State} (n : ℕ) → Fit s → Holds o w s → Leaves o (s .cells) (turned n, w) (R.refusal n 0, s)
 turned-leaves n f h = record { extends = same; holds = h; fit = f; says = record { number = refl; row = refl; deepest = refl; result = no-word } }
 
 pub asked-sized : {o : Before} {w : Machine} {s : State} (call : Call) → Fit s → Holds o w s → Leaves o (s .cells) (ask-sized (size-call call) call w) (play call s)
@@ -92,7 +97,7 @@ asked-sized {o} {w} {s} call f h = go (size-call call) refl
         let k = let-in call n e in
         let d = k .dims in
         let l = f .low in
-        subst (λ (m : ℕ). Leaves o (s .cells) (ask (callees m) (call .code) (call .dims) (scope-of Nil (call .types)) (call .terms) (afresh w)) (walk (walk-callees (s .limit)) (call .code) (call .dims) (scope-of Nil (call .types)) (call .terms) (with-deepest 0 s))) (ap (λ (n : Counts). n .limit) (sym (h .counts))) (asked {s = with-deepest 0 s} (s .limit) (call .code) (call .dims) (scope-of Nil (call .types)) (call .terms) (omega arith) (scope-low Nil (call .types) (omega arith) (k .types)) (k .terms) f (afresh-holds h))
+        subst (λ (m : ℕ). Leaves o (s .cells) (ask (callees m) (call .code) (call .dims) (scope-of Nil (call .types)) (call .terms) (afresh w)) (walk (walk-callees (s .limit)) (call .code) (call .dims) (scope-of Nil (call .types)) (call .terms) (with-deepest 0 s))) (ap (λ (n : Counts). n .limit) (sym (h .counts))) (asked {s = with-deepest 0 s} (s .limit) (link (s .limit)) (call .code) (call .dims) (scope-of Nil (call .types)) (call .terms) (omega arith) (scope-low Nil (call .types) (omega arith) (k .types)) (k .terms) f (afresh-holds h))
 
 pub data All-say (xs : List Thing) : List Said → List Answer → Type 0 where
   none-say : All-say xs [] []
