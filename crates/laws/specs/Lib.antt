@@ -1,4 +1,5 @@
--- The laws of substitution: stated in Laws, of the functions in Transforms, of the walk's calls and, by Program, of the program's.
+-- The laws of substitution: stated in Laws, of the functions in Transforms; of the walk's calls, by Results; and of the program's, by Program,
+-- Stores and Inside.
 pub mod Indices
 pub mod Transforms
 pub mod Squares

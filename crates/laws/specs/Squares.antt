@@ -12,22 +12,26 @@ use Rattle.laws.specs.Transforms.{itransform, at-dim, at-var, at-interva
 module _ (p q : IOp) (dim : (n : ℕ) → itransform q (at-dim p n) ≡ Dim n) where
   pub icancel : (r : Interval) → itransform q (itransform p r) ≡ r
   unfolding itransform
+  -- written by tools/written.py: cancel, an interval
   icancel I0 = refl
   icancel I1 = refl
   icancel (Dim n) = dim n
-  icancel (Neg r) = cc (icancel r)
-  icancel (Meet r s) = cc (icancel r, icancel s)
-  icancel (Join r s) = cc (icancel r, icancel s)
+  icancel (Neg a) = cc (icancel a)
+  icancel (Meet a b) = cc (icancel a, icancel b)
+  icancel (Join a b) = cc (icancel a, icancel b)
+  -- end of cancel, an interval
 
 module _ (p q p′ q′ : IOp) (dim : (n : ℕ) → itransform q (at-dim p n) ≡ itransform q′ (at-dim p′ n)) where
   pub icommute : (r : Interval) → itransform q (itransform p r) ≡ itransform q′ (itransform p′ r)
   unfolding itransform
+  -- written by tools/written.py: commute, an interval
   icommute I0 = refl
   icommute I1 = refl
   icommute (Dim n) = dim n
-  icommute (Neg r) = cc (icommute r)
-  icommute (Meet r s) = cc (icommute r, icommute s)
-  icommute (Join r s) = cc (icommute r, icommute s)
+  icommute (Neg a) = cc (icommute a)
+  icommute (Meet a b) = cc (icommute a, icommute b)
+  icommute (Join a b) = cc (icommute a, icommute b)
+  -- end of commute, an interval
 
 -- of a term
 
@@ -40,20 +44,22 @@ pub record Cancels (R : Op → Op → Type 0) : Type 0 where
 module _ {R : Op → Op → Type 0} (C : Cancels R) where
   pub cancel : {p q : Op} → R p q → (t : Term) → transform q (transform p t) ≡ t
   unfolding transform-with
-  cancel h (Universe l) = refl
+  -- written by tools/written.py: cancel, a term
+  cancel h (Universe n) = refl
   cancel h (Var n) = C .var h n
   cancel h Nat = refl
   cancel h Zero = refl
   cancel h (Pi a b) = cc (cancel h a, cancel (C .binder h false) b)
   cancel h (Lam a b) = cc (cancel h a, cancel (C .binder h false) b)
-  cancel h (App f a) = cc (cancel h f, cancel h a)
-  cancel h (Path a b e) = cc (cancel (C .binder h true) a, cancel h b, cancel h e)
+  cancel h (App a b) = cc (cancel h a, cancel h b)
+  cancel h (Path a b c) = cc (cancel (C .binder h true) a, cancel h b, cancel h c)
   cancel h (PathLam a b) = cc (cancel (C .binder h true) a, cancel (C .binder h true) b)
-  cancel h (PathApp p r) = cc (cancel h p, C .interval h r)
+  cancel h (PathApp a b) = cc (cancel h a, C .interval h b)
   cancel h (Sigma a b) = cc (cancel h a, cancel (C .binder h false) b)
-  cancel h (Pair ty a b) = cc (cancel h ty, cancel h a, cancel h b)
-  cancel h (Fst p) = cc (cancel h p)
-  cancel h (Snd p) = cc (cancel h p)
+  cancel h (Pair a b c) = cc (cancel h a, cancel h b, cancel h c)
+  cancel h (Fst a) = cc (cancel h a)
+  cancel h (Snd a) = cc (cancel h a)
+  -- end of cancel, a term
 
 -- where R relates the four, p then q is p′ then q′
 pub record Commutes (R : Op → Op → Op → Op → Type 0) : Type 0 where
@@ -66,20 +72,22 @@ pub record Commutes (R : Op → Op → Op → Op → Type 0) : Type 0 where
 module _ {R : Op → Op → Op → Op → Type 0} (C : Commutes R) where
   pub commute : {p q p′ q′ : Op} → R p q p′ q′ → (t : Term) → transform q (transform p t) ≡ transform q′ (transform p′ t)
   unfolding transform-with
-  commute h (Universe l) = refl
+  -- written by tools/written.py: commute, a term
+  commute h (Universe n) = refl
   commute h (Var n) = C .var h n
   commute h Nat = refl
   commute h Zero = refl
   commute h (Pi a b) = cc (commute h a, commute (C .binder h false) b)
   commute h (Lam a b) = cc (commute h a, commute (C .binder h false) b)
-  commute h (App f a) = cc (commute h f, commute h a)
-  commute h (Path a b e) = cc (commute (C .binder h true) a, commute h b, commute h e)
+  commute h (App a b) = cc (commute h a, commute h b)
+  commute h (Path a b c) = cc (commute (C .binder h true) a, commute h b, commute h c)
   commute h (PathLam a b) = cc (commute (C .binder h true) a, commute (C .binder h true) b)
-  commute h (PathApp p r) = cc (commute h p, C .interval h r)
+  commute h (PathApp a b) = cc (commute h a, C .interval h b)
   commute h (Sigma a b) = cc (commute h a, commute (C .binder h false) b)
-  commute h (Pair ty a b) = cc (commute h ty, commute h a, commute h b)
-  commute h (Fst p) = cc (commute h p)
-  commute h (Snd p) = cc (commute h p)
+  commute h (Pair a b c) = cc (commute h a, commute h b, commute h c)
+  commute h (Fst a) = cc (commute h a)
+  commute h (Snd a) = cc (commute h a)
+  -- end of commute, a term
 
 -- a shift is the same whatever lifts
 
@@ -103,21 +111,22 @@ module _ (f g : Bool → Term → Term) where
 
   alike : {op : Op} → Shifts op → (t : Term) → transform-with f op t ≡ transform-with g op t
   unfolding transform-with
-  alike h (Universe l) = refl
-  alike vars (Var n) = refl
-  alike dims (Var n) = refl
+  -- written by tools/written.py: alike
+  alike h (Universe n) = refl
+  alike h (Var n) = refl
   alike h Nat = refl
   alike h Zero = refl
   alike h (Pi a b) = cc (alike h a, alike (shifts-under f h false) b, alike-under h false)
   alike h (Lam a b) = cc (alike h a, alike (shifts-under f h false) b, alike-under h false)
-  alike h (App x a) = cc (alike h x, alike h a)
-  alike h (Path a b e) = cc (alike (shifts-under f h true) a, alike-under h true, alike h b, alike h e)
-  alike h (PathLam a b) = cc (alike (shifts-under f h true) a, alike (shifts-under f h true) b, alike-under h true)
-  alike h (PathApp p r) = cc (alike h p)
+  alike h (App a b) = cc (alike h a, alike h b)
+  alike h (Path a b c) = cc (alike (shifts-under f h true) a, alike-under h true, alike h b, alike h c)
+  alike h (PathLam a b) = cc (alike (shifts-under f h true) a, alike-under h true, alike (shifts-under f h true) b, alike-under h true)
+  alike h (PathApp a b) = cc (alike h a)
   alike h (Sigma a b) = cc (alike h a, alike (shifts-under f h false) b, alike-under h false)
-  alike h (Pair ty a b) = cc (alike h ty, alike h a, alike h b)
-  alike h (Fst p) = cc (alike h p)
-  alike h (Snd p) = cc (alike h p)
+  alike h (Pair a b c) = cc (alike h a, alike h b, alike h c)
+  alike h (Fst a) = cc (alike h a)
+  alike h (Snd a) = cc (alike h a)
+  -- end of alike
 
 abbrev pub lift : Bool → Op
 lift false = Shift 0

@@ -7,7 +7,7 @@ use Rattle.walk.specs.Walk.Reference.{Op, Shift, Subst, DShift, DSubst, IOp, IS
 use Rattle.order.specs.Numbers.{interval-top, term-top}
 use Rattle.order.specs.Bound.{op-cutoff, op-top, iop-cutoff, iop-top}
 use Rattle.laws.specs.Indices.{up-low}
-use Rattle.laws.specs.Transforms.{itransform, transform-with, lifted, under}
+use Rattle.laws.specs.Transforms.{itransform, at-var, at-interval, transform-with, lifted, under}
 use Rattle.laws.specs.Squares.{Shifts, vars, dims, shifts-under}
 
 -- the largest number that is handed over: the place, or one of what is put in; and one of what is transformed
@@ -22,34 +22,44 @@ icall-top r op = max (max (iop-cutoff op) (iop-top op)) (interval-top r)
 
 ishift-top : (k : ℕ) (r : Interval) → interval-top (itransform (IShift k) r) ≤ suc (interval-top r)
 unfolding itransform
+-- written by tools/written.py: an interval
 ishift-top k I0 = omega arith
 ishift-top k I1 = omega arith
 ishift-top k (Dim n) = up-low k n
-ishift-top k (Neg r) = ishift-top k r
-ishift-top k (Meet r q) = let x = ishift-top k r in let y = ishift-top k q in omega arith
-ishift-top k (Join r q) = let x = ishift-top k r in let y = ishift-top k q in omega arith
+ishift-top k (Neg a) = let x = ishift-top k a in omega arith
+ishift-top k (Meet a b) = let x = ishift-top k a in let y = ishift-top k b in omega arith
+ishift-top k (Join a b) = let x = ishift-top k a in let y = ishift-top k b in omega arith
+
+-- end of an interval
+
+-- of a variable, and of the interval of a papp
+var-shift-top : {op : Op} → Shifts op → (n : ℕ) → term-top (at-var op n) ≤ suc n
+var-shift-top (vars {k = k}) n = up-low k n
+var-shift-top dims n = omega arith
+
+interval-shift-top : {op : Op} → Shifts op → (r : Interval) → interval-top (at-interval op r) ≤ suc (interval-top r)
+interval-shift-top vars r = omega arith
+interval-shift-top (dims {k = k}) r = ishift-top k r
 
 module _ (f : Bool → Term → Term) where
   shift-top : {op : Op} → Shifts op → (t : Term) → term-top (transform-with f op t) ≤ suc (term-top t)
   unfolding transform-with
-  shift-top h (Universe l) = omega arith
-  shift-top (vars {k = k}) (Var n) = up-low k n
-  shift-top dims (Var n) = omega arith
+  -- written by tools/written.py: a term
+  shift-top h (Universe n) = omega arith
+  shift-top h (Var n) = var-shift-top h n
   shift-top h Nat = omega arith
   shift-top h Zero = omega arith
   shift-top h (Pi a b) = let x = shift-top h a in let y = shift-top (shifts-under f h false) b in omega arith
   shift-top h (Lam a b) = let x = shift-top h a in let y = shift-top (shifts-under f h false) b in omega arith
-  shift-top h (App g a) = let x = shift-top h g in let y = shift-top h a in omega arith
-  shift-top h (Path a b e) =
-      let x = shift-top (shifts-under f h true) a in let y = shift-top h b in let z = shift-top h e in omega arith
-  shift-top h (PathLam a b) =
-      let x = shift-top (shifts-under f h true) a in let y = shift-top (shifts-under f h true) b in omega arith
-  shift-top (vars {k = k}) (PathApp p r) = let x = shift-top (vars {k = k}) p in omega arith
-  shift-top (dims {k = k}) (PathApp p r) = let x = shift-top (dims {k = k}) p in let y = ishift-top k r in omega arith
+  shift-top h (App a b) = let x = shift-top h a in let y = shift-top h b in omega arith
+  shift-top h (Path a b c) = let x = shift-top (shifts-under f h true) a in let y = shift-top h b in let z = shift-top h c in omega arith
+  shift-top h (PathLam a b) = let x = shift-top (shifts-under f h true) a in let y = shift-top (shifts-under f h true) b in omega arith
+  shift-top h (PathApp a b) = let x = shift-top h a in let y = interval-shift-top h b in omega arith
   shift-top h (Sigma a b) = let x = shift-top h a in let y = shift-top (shifts-under f h false) b in omega arith
-  shift-top h (Pair ty a b) = let x = shift-top h ty in let y = shift-top h a in let z = shift-top h b in omega arith
-  shift-top h (Fst p) = shift-top h p
-  shift-top h (Snd p) = shift-top h p
+  shift-top h (Pair a b c) = let x = shift-top h a in let y = shift-top h b in let z = shift-top h c in omega arith
+  shift-top h (Fst a) = let x = shift-top h a in omega arith
+  shift-top h (Snd a) = let x = shift-top h a in omega arith
+  -- end of a term
 
 lifted-top : (d : Bool) (t : Term) → term-top (lifted d t) ≤ suc (term-top t)
 unfolding lifted

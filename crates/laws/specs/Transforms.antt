@@ -14,12 +14,15 @@ at-dim (IShift k) n = Dim (up k n)
 at-dim (ISubst k s) n = put Dim k s n
 
 unfoldable pub itransform : IOp → Interval → Interval
+-- written by tools/written.py: an interval
 itransform op I0 = I0
 itransform op I1 = I1
 itransform op (Dim n) = at-dim op n
-itransform op (Neg r) = Neg (itransform op r)
-itransform op (Meet r q) = Meet (itransform op r) (itransform op q)
-itransform op (Join r q) = Join (itransform op r) (itransform op q)
+itransform op (Neg a) = Neg (itransform op a)
+itransform op (Meet a b) = Meet (itransform op a) (itransform op b)
+itransform op (Join a b) = Join (itransform op a) (itransform op b)
+
+-- end of an interval
 
 -- of a term
 
@@ -49,20 +52,22 @@ under-with lift (DSubst k s) true = DSubst (suc k) (itransform (IShift 0) s)
 
 module _ (lift : Bool → Term → Term) where
   unfoldable pub transform-with : Op → Term → Term
-  transform-with op (Universe l) = Universe l
+  -- written by tools/written.py: a term
+  transform-with op (Universe n) = Universe n
   transform-with op (Var n) = at-var op n
   transform-with op Nat = Nat
   transform-with op Zero = Zero
   transform-with op (Pi a b) = Pi (transform-with op a) (transform-with (under-with lift op false) b)
   transform-with op (Lam a b) = Lam (transform-with op a) (transform-with (under-with lift op false) b)
-  transform-with op (App f a) = App (transform-with op f) (transform-with op a)
-  transform-with op (Path a b e) = Path (transform-with (under-with lift op true) a) (transform-with op b) (transform-with op e)
+  transform-with op (App a b) = App (transform-with op a) (transform-with op b)
+  transform-with op (Path a b c) = Path (transform-with (under-with lift op true) a) (transform-with op b) (transform-with op c)
   transform-with op (PathLam a b) = PathLam (transform-with (under-with lift op true) a) (transform-with (under-with lift op true) b)
-  transform-with op (PathApp p r) = PathApp (transform-with op p) (at-interval op r)
+  transform-with op (PathApp a b) = PathApp (transform-with op a) (at-interval op b)
   transform-with op (Sigma a b) = Sigma (transform-with op a) (transform-with (under-with lift op false) b)
-  transform-with op (Pair ty a b) = Pair (transform-with op ty) (transform-with op a) (transform-with op b)
-  transform-with op (Fst p) = Fst (transform-with op p)
-  transform-with op (Snd p) = Snd (transform-with op p)
+  transform-with op (Pair a b c) = Pair (transform-with op a) (transform-with op b) (transform-with op c)
+  transform-with op (Fst a) = Fst (transform-with op a)
+  transform-with op (Snd a) = Snd (transform-with op a)
+  -- end of a term
 
 -- A term moves under a binder by a shift at 0. A shift puts nothing in, so it has nothing to lift (`lifted-is` of Squares).
 unfoldable pub lifted : Bool → Term → Term
