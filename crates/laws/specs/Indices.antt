@@ -1,6 +1,6 @@
 -- What a shift at k and a substitution at k make of an index n, of a variable or of a dimension.
 use Prim.Native.Nat.{ℕ, suc, _-_, _≤_, _<_}
-use mathlib.Core.Path.{_≡_, refl}
+use mathlib.Core.Path.{_≡_, refl, ap}
 use native.Mathlib.Decide.{ℕ-discrete, decLt}
 use native.Mathlib.Omega.{arith}
 
@@ -50,7 +50,7 @@ module _ {A : Type 0} (v : ℕ → A) (k : ℕ) (a : A) where
   unfolding put
   put-above n l =
       let e : suc n - 1 ≡ n = omega arith in
-      rw (fails _ _ (ℕ-discrete (suc n) k) (omega arith), fails _ _ (decLt (suc n) k) (omega arith), e)
+      rw (fails _ _ (ℕ-discrete (suc n) k) (omega arith), fails _ _ (decLt (suc n) k) (omega arith)) (ap v e)
 
 data Place (k : ℕ) : ℕ → Type 0 where
   below : (n : ℕ) → n < k → Place k n

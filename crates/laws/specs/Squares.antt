@@ -1,7 +1,7 @@
 -- Two transforms, one after the other: that they undo each other, or may change places, is to be seen at variables, at intervals
 -- and under binders. Here is the way through the kinds of terms, once for all laws.
 use Prim.Native.Nat.{ℕ, suc}
-use mathlib.Core.Path.{_≡_, refl}
+use mathlib.Core.Path.{_≡_, refl, ap}
 use mathlib.Core.Bool.{Bool, true, false}
 use Rattle.walk.specs.Syntax.{Interval, I0, I1, Dim, Neg, Meet, Join, Term, Universe, Var, Nat, Zero, Pi, Lam, App, Path, PathLam, PathApp, Sigma, Pair, Fst, Snd}
 use Rattle.walk.specs.Walk.Reference.{Op, Shift, Subst, DShift, IOp}
@@ -139,7 +139,7 @@ lifted-is true t = alike _ lifted dims t
 
 -- so what is put in goes under a binder as the rules have it
 pub under-var : (k : ℕ) (a : Term) → under (Subst k a) false ≡ Subst (suc k) (transform (Shift 0) a)
-under-var k a = rw (lifted-is false a)
+under-var k a = ap (λ (t : Term). Subst (suc k) t) (lifted-is false a)
 
 pub under-dim : (k : ℕ) (a : Term) → under (Subst k a) true ≡ Subst k (transform (DShift 0) a)
-under-dim k a = rw (lifted-is true a)
+under-dim k a = ap (λ (t : Term). Subst k t) (lifted-is true a)
