@@ -438,3 +438,7 @@ module _ {o : Before} {w : Machine} {s : State} (h : Holds o w s) {xs : List Thi
 
   pub thing-of-cell : (i : ℕ) → i < length xs → Thing-of (length xs) (w .cells) xs i
   thing-of-cell i l = let r = numbered xs i l in record { thing = r .one; among = r .among; holds = held-back i (r .one) (r .nth) }
+
+-- a cell reads back as what it stands for
+pub cell-back : {o : Before} {w : Machine} {s : State} {n : ℕ} {x : Thing} → Holds o w s → Cell n x (s .cells) → Holds-thing (w .state .cells) (w .cells) n x
+cell-back {n = n} {x = x} h c = rw (h .counts) (held-back h same n x (cell-nth c))

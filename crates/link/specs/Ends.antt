@@ -6,7 +6,7 @@ use native.Mathlib.Omega.{arith}
 use lib.ListN.{length, getD}
 use Rattle.ast.specs.Indexed.{index-none}
 use Rattle.producer.specs.Machine.{Machine, Result, is, not, W}
-use Rattle.producer.specs.Calls.{callees}
+use Rattle.producer.specs.Callees.{Callees}
 use Rattle.walk.specs.Syntax.{Term, Context}
 use Rattle.walk.specs.State.{recall, State, Thing, term, Outcome, done, refused, M}
 use Rattle.walk.specs.Walk.{callees as walk-callees}
@@ -18,8 +18,8 @@ use Rattle.link.specs.Lists.{first, Extends, same, no-block, blocks-leng
 use Rattle.link.specs.Store.{no-memory, Remembers}
 use Rattle.link.specs.Holds.{Before, Holds}
 use Rattle.link.specs.Match.{Agree, both-done, both-refused, by-guard, Matches, Same, Pairs, Returns}
-use Rattle.link.specs.Linked.{Alike}
-use Rattle.link.specs.Link.{link}
+use Rattle.link.specs.Linked.{Linked, Alike}
+use Rattle.link.specs.Link.{ready}
 use Rattle.link.specs.Asked.{start, call-ctx, call-universe, call-infer, call-check, call-normalize, call-equal}
 use Rattle.link.specs.Calls.{call-ctx-matches, call-universe-matches, call-infer-matches, call-check-matches, call-normalize-matches, call-equal-matches}
 
@@ -59,21 +59,23 @@ not-by-guard by-guard (stopped z l f) = absurd (z refl)
 pub ends : {A B : Type 0} {o : Before} {Q : B → A → List Thing → Type 0} {P : A → ℕ → Type 0} {w : Machine} {s : State} {m : W B} {g d : M A} → Matches o (s .cells) m g Q → Within (length (s .rows)) g d P → Fit s → Holds o w s → Ends o (s .cells) Q (m w) (d s)
 ends {w = w} {s = s} k b f h = rw (b .same s (omega arith) f) (not-by-guard (k .holds w s same h) (b .holds s (omega arith) f))
 
--- a call, from any state that the calls before it left: n entries left, d dimensions, no number above 32
-pub inferred : {o : Before} {w : Machine} {s : State} (n d : ℕ) (g : Context) (t : Term) → d + n ≤ 4200 → context-top g ≤ 32 → term-top t ≤ 32 → Fit s → Holds o w s → Ends o (s .cells) (Returns term) (call-infer (callees n) d g t w) (walk-callees n .infer d g t s)
-inferred n d g t l i j f h = ends (call-infer-matches (callees n) (guarded n) (link n) d g t) (bounds n (omega arith) .infer d g t (omega arith)) f h
+-- a call, from any state that the calls before it left: n entries left, d dimensions, no number above 32; over any functions that match the
+-- guarded walk's
+module _ {o : Before} (n : ℕ) {c : Callees} (L : Linked o (ready n) c (guarded n)) where
+  pub inferred : {w : Machine} {s : State} (d : ℕ) (g : Context) (t : Term) → d + n ≤ 4200 → context-top g ≤ 32 → term-top t ≤ 32 → Fit s → Holds o w s → Ends o (s .cells) (Returns term) (call-infer c d g t w) (walk-callees n .infer d g t s)
+  inferred d g t l i j f h = ends (call-infer-matches c (guarded n) L d g t) (bounds n (omega arith) .infer d g t (omega arith)) f h
 
-pub checked : {o : Before} {w : Machine} {s : State} (n d : ℕ) (g : Context) (t y : Term) → d + n ≤ 4200 → context-top g ≤ 32 → term-top t ≤ 32 → term-top y ≤ 32 → Fit s → Holds o w s → Ends o (s .cells) Same (call-check (callees n) d g t y w) (walk-callees n .check d g t y s)
-checked n d g t y l i j k f h = ends (call-check-matches (callees n) (guarded n) (link n) d g t y) (bounds n (omega arith) .check d g t y (omega arith)) f h
+  pub checked : {w : Machine} {s : State} (d : ℕ) (g : Context) (t y : Term) → d + n ≤ 4200 → context-top g ≤ 32 → term-top t ≤ 32 → term-top y ≤ 32 → Fit s → Holds o w s → Ends o (s .cells) Same (call-check c d g t y w) (walk-callees n .check d g t y s)
+  checked d g t y l i j k f h = ends (call-check-matches c (guarded n) L d g t y) (bounds n (omega arith) .check d g t y (omega arith)) f h
 
-pub contexted : {o : Before} {w : Machine} {s : State} (n d : ℕ) (g : Context) → d + n ≤ 4200 → context-top g ≤ 32 → Fit s → Holds o w s → Ends o (s .cells) Same (call-ctx (callees n) d g w) (walk-callees n .ctx d g s)
-contexted n d g l i f h = ends (call-ctx-matches (callees n) (guarded n) (link n) d g) (bounds n (omega arith) .ctx d g (omega arith)) f h
+  pub contexted : {w : Machine} {s : State} (d : ℕ) (g : Context) → d + n ≤ 4200 → context-top g ≤ 32 → Fit s → Holds o w s → Ends o (s .cells) Same (call-ctx c d g w) (walk-callees n .ctx d g s)
+  contexted d g l i f h = ends (call-ctx-matches c (guarded n) L d g) (bounds n (omega arith) .ctx d g (omega arith)) f h
 
-pub levelled : {o : Before} {w : Machine} {s : State} (n d : ℕ) (g : Context) (t : Term) → d + n ≤ 4200 → context-top g ≤ 32 → term-top t ≤ 32 → Fit s → Holds o w s → Ends o (s .cells) (Pairs Alike) (call-universe (callees n) d g t w) (walk-callees n .universe d g t s)
-levelled n d g t l i j f h = ends (call-universe-matches (callees n) (guarded n) (link n) d g t) (bounds n (omega arith) .universe d g t (omega arith)) f h
+  pub levelled : {w : Machine} {s : State} (d : ℕ) (g : Context) (t : Term) → d + n ≤ 4200 → context-top g ≤ 32 → term-top t ≤ 32 → Fit s → Holds o w s → Ends o (s .cells) (Pairs Alike) (call-universe c d g t w) (walk-callees n .universe d g t s)
+  levelled d g t l i j f h = ends (call-universe-matches c (guarded n) L d g t) (bounds n (omega arith) .universe d g t (omega arith)) f h
 
-pub normalised : {o : Before} {w : Machine} {s : State} (n d : ℕ) (g : Context) (t y : Term) → d + n ≤ 4200 → context-top g ≤ 32 → term-top t ≤ 32 → term-top y ≤ 32 → Fit s → Holds o w s → Ends o (s .cells) (Returns term) (call-normalize (callees n) d g t y w) (walk-callees n .normalize d g t y s)
-normalised n d g t y l i j k f h = ends (call-normalize-matches (callees n) (guarded n) (link n) d g t y) (bounds n (omega arith) .normalize d g t y (omega arith)) f h
+  pub normalised : {w : Machine} {s : State} (d : ℕ) (g : Context) (t y : Term) → d + n ≤ 4200 → context-top g ≤ 32 → term-top t ≤ 32 → term-top y ≤ 32 → Fit s → Holds o w s → Ends o (s .cells) (Returns term) (call-normalize c d g t y w) (walk-callees n .normalize d g t y s)
+  normalised d g t y l i j k f h = ends (call-normalize-matches c (guarded n) L d g t y) (bounds n (omega arith) .normalize d g t y (omega arith)) f h
 
-pub equalled : {o : Before} {w : Machine} {s : State} (n d : ℕ) (g : Context) (a b y : Term) → d + n ≤ 4200 → context-top g ≤ 32 → term-top a ≤ 32 → term-top b ≤ 32 → term-top y ≤ 32 → Fit s → Holds o w s → Ends o (s .cells) Same (call-equal (callees n) d g a b y w) (walk-callees n .equal d g a b y s)
-equalled n d g a b y l i j k m f h = ends (call-equal-matches (callees n) (guarded n) (link n) d g a b y) (bounds n (omega arith) .equal d g a b y (omega arith)) f h
+  pub equalled : {w : Machine} {s : State} (d : ℕ) (g : Context) (a b y : Term) → d + n ≤ 4200 → context-top g ≤ 32 → term-top a ≤ 32 → term-top b ≤ 32 → term-top y ≤ 32 → Fit s → Holds o w s → Ends o (s .cells) Same (call-equal c d g a b y w) (walk-callees n .equal d g a b y s)
+  equalled d g a b y l i j k m f h = ends (call-equal-matches c (guarded n) L d g a b y) (bounds n (omega arith) .equal d g a b y (omega arith)) f h

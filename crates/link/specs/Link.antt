@@ -36,7 +36,7 @@ unfoldable pub ready : ℕ → M (Unit {0})
 ready ℕ.zero = refuse Refusal.nesting
 ready (ℕ.suc n) = note n
 
-linked-none : {o : Before} → Linked o (ready 0) P.none-left (B.none-left bump)
+pub linked-none : {o : Before} → Linked o (ready 0) P.none-left (B.none-left bump)
 unfolding P.none-left B.none-left ready
 linked-none = record {
   ready = stopping _;
@@ -66,7 +66,7 @@ linked-none = record {
   more = λ n. refl;
 }
 
-linked-entered : {o : Before} (n : ℕ) {rd : M (Unit {0})} (c : Callees) (d : D.Callees) → Linked o rd c d → Linked o (ready (suc n)) (P.entered n c) (B.entered n d)
+pub linked-entered : {o : Before} (n : ℕ) {rd : M (Unit {0})} (c : Callees) (d : D.Callees) → Linked o rd c d → Linked o (ready (suc n)) (P.entered n c) (B.entered n d)
 unfolding P.entered B.entered ready
 linked-entered n c d L = record {
   ready = noting n;

@@ -21,8 +21,7 @@ use Rattle.walk.specs.State.{State, Thing, term, interval, context, of-interval
 use Rattle.walk.specs.State as S
 use Rattle.walk.specs.Walk.Reference as D
 use Rattle.walk.specs.Walk.Numbers.{larger}
-use Rattle.order.specs.Numbers.{largest}
-use Rattle.order.specs.Guarded.{beyond, bump}
+use Rattle.order.specs.Guarded.{beyond, word, bump-to, bump}
 use Rattle.link.specs.Lists.{Extends}
 use Rattle.link.specs.Things.{Cell, cell-lift}
 use Rattle.link.specs.Tables.{s-universe, s-var, s-nat, s-zero, s-pi, s-lam, s-app, s-path, s-plam, s-papp, s-sigma, s-pair, s-fst, s-snd, s-i0, s-i1, s-dim, s-neg, s-meet, s-join, s-nil, s-cons}
@@ -109,16 +108,16 @@ module _ {A B : Type 0} {o : Before} {xs : List Thing} {R : B → A → List Thi
   pub cited-then : {P K : Type 0} {rel : P → K → List Thing → Type 0} {m : W (P × Refs)} {d : M (K × List ℕ)} (f : P × Refs → W B) (g : K × List ℕ → M A) → Matches o xs m d (Carries rel) → ((n : P) (l : Refs) (c : K) (ns : List ℕ) (ys : List Thing) → Extends xs ys → rel n c ys → Few l ns → Matches o ys (f (n, l)) (g (c, ns)) R) → Matches o xs (C._>>=_ m f) (S._>>=_ d g) R
   cited-then f g h k = bind h λ p r ys e q. k (p .0) (p .1) (r .0) (r .1) ys e (q .left) (q .right)
 
-up-is : (n : ℕ) → n < largest → up n ≡ suc n
+up-is : (n : ℕ) → n < word → up n ≡ suc n
 unfolding up
 up-is n l = omega arith
 
 -- the guarded walk makes the next number
 pub bumping : {A C : Type 0} {o : Before} {xs : List Thing} {R : C → A → List Thing → Type 0} {m : W C} {d : M ℕ} (g : ℕ → M A) (n : ℕ) → d ≡ bump n → (up n ≡ suc n → Matches o xs m (g (suc n)) R) → Matches o xs m (S._>>=_ d g) R
-unfolding bump S._>>=_ S.go-on S.if_then_else_ S.pure S.refuse
-bumping {o = o} {xs = xs} {R = R} {m = m} g n q h = rw q (record { holds = λ w s e i. go w s e i (decLt n largest) })
+unfolding bump-to S._>>=_ S.go-on S.if_then_else_ S.pure S.refuse
+bumping {o = o} {xs = xs} {R = R} {m = m} g n q h = rw q (record { holds = λ w s e i. go w s e i (decLt n word) })
   where
-    go : (w : Machine) (s : State) → Extends xs (s .cells) → Holds o w s → (d : Dec (n < largest)) → Agree o xs R (m w) (S.go-on ((S.if_then_else_ d (S.pure (suc n)) (S.refuse beyond)) s) g)
+    go : (w : Machine) (s : State) → Extends xs (s .cells) → Holds o w s → (d : Dec (n < word)) → Agree o xs R (m w) (S.go-on ((S.if_then_else_ d (S.pure (suc n)) (S.refuse beyond)) s) g)
     go w s e i (yes l) = h (up-is n l) .holds w s e i
     go w s e i (no l) = by-guard
 

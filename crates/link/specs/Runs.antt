@@ -7,6 +7,7 @@ use native.Mathlib.Omega.{arith}
 use lib.ListN.{length}
 use Rattle.producer.specs.declared.State.{State as Counts}
 use Rattle.producer.specs.Machine.{Machine, Result}
+use Rattle.producer.specs.Callees.{Callees}
 use Rattle.producer.specs.Calls.{callees}
 use Rattle.walk.specs.Syntax.{Term, Context, Nil}
 use Rattle.walk.specs.State.{State, Thing, term, Outcome, with-deepest}
@@ -16,12 +17,15 @@ use Rattle.walk.specs.Limits.{Sized, fits, scope-over, size-over, index-over, s
 use Rattle.walk.specs.Run.{no-result, a-level, a-term, Answer, answered, scope-of, nth, walk, play-sized, play, play-all}
 use Rattle.walk.specs.Run as R
 use Rattle.order.specs.Numbers.{context-top}
+use Rattle.order.specs.Guarded.{guarded}
 use Rattle.order.specs.Bound.{Fit}
 use Rattle.order.specs.Sent.{Lows, nth-low, scope-low, let-in}
 use Rattle.order.specs.Never.{start-fits}
 use Rattle.link.specs.Lists.{Extends, same, extends-trans}
 use Rattle.link.specs.Things.{Cell, cell-lift}
 use Rattle.link.specs.Holds.{Before, Holds}
+use Rattle.link.specs.Linked.{Linked}
+use Rattle.link.specs.Link.{ready, link}
 use Rattle.link.specs.Asked.{Said, told, ask, turned, afresh, ask-sized, ask-all, start}
 use Rattle.link.specs.Ends.{starts, Ends, in-value, in-refusal, contexted, levelled, inferred, checked, normalised, equalled}
 
@@ -63,17 +67,18 @@ module _ {A C : Type 0} {o : Before} {xs : List Thing} {Q : C → A → List Thi
   leaves (in-value {a = a} {b = c} {s = s} e h g q) = let p = f c a (s .cells) q in record { extends = e; holds = h; fit = g; says = record { number = refl; row = p .same-row; deepest = ap (λ (n : Counts). n .deepest) (h .counts); result = p .same-result } }
   leaves (in-refusal e h g) = record { extends = e; holds = h; fit = g; says = record { number = refl; row = refl; deepest = ap (λ (n : Counts). n .deepest) (h .counts); result = no-word } }
 
-asked : {o : Before} {w : Machine} {s : State} (n : ℕ) (code : Code) (d : ℕ) (g : Context) (ts : List Term) → d + n ≤ 4200 → context-top g ≤ 32 → Lows ts → Fit s → Holds o w s → Leaves o (s .cells) (ask (callees n) code d g ts w) (walk (walk-callees n) code d g ts s)
+-- over any functions that match the guarded walk's
+pub asked : {o : Before} {w : Machine} {s : State} {c : Callees} (n : ℕ) → Linked o (ready n) c (guarded n) → (code : Code) (d : ℕ) (g : Context) (ts : List Term) → d + n ≤ 4200 → context-top g ≤ 32 → Lows ts → Fit s → Holds o w s → Leaves o (s .cells) (ask c code d g ts w) (walk (walk-callees n) code d g ts s)
 unfolding ask walk
-asked n c-context d g ts l i k f h = leaves _ _ _ _ (λ c a ys q. record { same-row = q; same-result = no-word }) (contexted n d g l i f h)
-asked n c-universe d g ts l i k f h = leaves _ _ _ _ (λ c a ys q. record { same-row = q .right; same-result = level-word (q .left) }) (levelled n d g (nth ts 0) l i (nth-low ts 0 k) f h)
-asked n c-infer d g ts l i k f h = leaves _ _ _ _ (λ c a ys q. record { same-row = q .right; same-result = term-word (q .left) }) (inferred n d g (nth ts 0) l i (nth-low ts 0 k) f h)
-asked n c-check d g ts l i k f h = leaves _ _ _ _ (λ c a ys q. record { same-row = q; same-result = no-word }) (checked n d g (nth ts 0) (nth ts 1) l i (nth-low ts 0 k) (nth-low ts 1 k) f h)
-asked n c-normalise d g ts l i k f h = leaves _ _ _ _ (λ c a ys q. record { same-row = q .right; same-result = term-word (q .left) }) (normalised n d g (nth ts 0) (nth ts 1) l i (nth-low ts 0 k) (nth-low ts 1 k) f h)
-asked n c-equal d g ts l i k f h = leaves _ _ _ _ (λ c a ys q. record { same-row = q; same-result = no-word }) (equalled n d g (nth ts 0) (nth ts 1) (nth ts 2) l i (nth-low ts 0 k) (nth-low ts 1 k) (nth-low ts 2 k) f h)
+asked n L c-context d g ts l i k f h = leaves _ _ _ _ (λ c a ys q. record { same-row = q; same-result = no-word }) (contexted n L d g l i f h)
+asked n L c-universe d g ts l i k f h = leaves _ _ _ _ (λ c a ys q. record { same-row = q .right; same-result = level-word (q .left) }) (levelled n L d g (nth ts 0) l i (nth-low ts 0 k) f h)
+asked n L c-infer d g ts l i k f h = leaves _ _ _ _ (λ c a ys q. record { same-row = q .right; same-result = term-word (q .left) }) (inferred n L d g (nth ts 0) l i (nth-low ts 0 k) f h)
+asked n L c-check d g ts l i k f h = leaves _ _ _ _ (λ c a ys q. record { same-row = q; same-result = no-word }) (checked n L d g (nth ts 0) (nth ts 1) l i (nth-low ts 0 k) (nth-low ts 1 k) f h)
+asked n L c-normalise d g ts l i k f h = leaves _ _ _ _ (λ c a ys q. record { same-row = q .right; same-result = term-word (q .left) }) (normalised n L d g (nth ts 0) (nth ts 1) l i (nth-low ts 0 k) (nth-low ts 1 k) f h)
+asked n L c-equal d g ts l i k f h = leaves _ _ _ _ (λ c a ys q. record { same-row = q; same-result = no-word }) (equalled n L d g (nth ts 0) (nth ts 1) (nth ts 2) l i (nth-low ts 0 k) (nth-low ts 1 k) (nth-low ts 2 k) f h)
 
 -- deepest starts from 0
-afresh-holds : {o : Before} {w : Machine} {s : State} → Holds o w s → Holds o (afresh w) (with-deepest 0 s)
+pub afresh-holds : {o : Before} {w : Machine} {s : State} → Holds o w s → Holds o (afresh w) (with-deepest 0 s)
 unfolding afresh with-deepest
 afresh-holds h = record { words = h .words; counts = rw (h .counts); cells-fit = h .cells-fit; rows-fit = h .rows-fit; rows-index = h .rows-index; cells-index = h .cells-index }
 
@@ -92,7 +97,7 @@ asked-sized {o} {w} {s} call f h = go (size-call call) refl
         let k = let-in call n e in
         let d = k .dims in
         let l = f .low in
-        subst (λ (m : ℕ). Leaves o (s .cells) (ask (callees m) (call .code) (call .dims) (scope-of Nil (call .types)) (call .terms) (afresh w)) (walk (walk-callees (s .limit)) (call .code) (call .dims) (scope-of Nil (call .types)) (call .terms) (with-deepest 0 s))) (ap (λ (n : Counts). n .limit) (sym (h .counts))) (asked {s = with-deepest 0 s} (s .limit) (call .code) (call .dims) (scope-of Nil (call .types)) (call .terms) (omega arith) (scope-low Nil (call .types) (omega arith) (k .types)) (k .terms) f (afresh-holds h))
+        subst (λ (m : ℕ). Leaves o (s .cells) (ask (callees m) (call .code) (call .dims) (scope-of Nil (call .types)) (call .terms) (afresh w)) (walk (walk-callees (s .limit)) (call .code) (call .dims) (scope-of Nil (call .types)) (call .terms) (with-deepest 0 s))) (ap (λ (n : Counts). n .limit) (sym (h .counts))) (asked {s = with-deepest 0 s} (s .limit) (link (s .limit)) (call .code) (call .dims) (scope-of Nil (call .types)) (call .terms) (omega arith) (scope-low Nil (call .types) (omega arith) (k .types)) (k .terms) f (afresh-holds h))
 
 pub data All-say (xs : List Thing) : List Said → List Answer → Type 0 where
   none-say : All-say xs [] []

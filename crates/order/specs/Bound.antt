@@ -1,4 +1,5 @@
--- No number passes `largest`, which is 65,535: the guarded walk is the walk, its guard never stops it, and what is left is small.
+-- No number passes `largest`, which is 65,535: the walk that is guarded there, or further up, is the walk, its guard never stops it, and what
+-- is left is small.
 -- `Within b m e Q`: from any state with b rows that fits, e does what m does, which is not stopped by the guard and leaves what fits.
 -- In quotes and terms: a row has no number above 33 and the rows below it, and what is handed about none above 32 and the rows.
 -- Elsewhere: dimension counts and cutoffs are at most 4,200, since each new one takes an entry; so 4,233 and the rows bound all.
@@ -24,7 +25,7 @@ use Rattle.walk.specs.Walk.Equality.{beta, at-end, pbeta, ends, fst-beta, snd-b
 use Rattle.walk.specs.Refusal as Refusal
 use Rattle.walk.specs.Walk.{none-left, entered, callees-by, one-more, callees}
 use Rattle.order.specs.Numbers.{largest, interval-top, term-top, context-top, quote-top, quotes-top, judgment-top, key-top, thing-top, memory-top, At-most, at-most-nil, at-most-cons, State-bounded}
-use Rattle.order.specs.Guarded.{beyond, bump, guarded}
+use Rattle.order.specs.Guarded.{beyond, bump-to, guarded-to, word, guarded}
 use Rattle.walk.specs.Sound.Parts.{level-is, pi-is, lam-is, path-is, plam-is, sigma-is, pair-is}
 use Rattle.walk.specs.Demand.{At, here, there}
 use Rattle.walk.specs.Sound.Logic.{found as row-found}
@@ -261,11 +262,11 @@ unfolding if_then_else_
 passed (yes h) y f g = f h
 passed (no h) y f g = absurd (g h)
 
-bumped : {b : ℕ} (k : ℕ) → k ≤ 4200 + b → Within b (bump k) (one-more k) (λ k′ _. k′ ≡ suc k)
-unfolding bump one-more
-bumped {b} k l = record { holds = λ s e g. at s e g .holds s e g; same = λ s e g. at s e g .same s e g }
+bumped : {b : ℕ} (top : ℕ) → largest ≤ top → (k : ℕ) → k ≤ 4200 + b → Within b (bump-to top k) (one-more k) (λ k′ _. k′ ≡ suc k)
+unfolding bump-to one-more
+bumped {b} top t k l = record { holds = λ s e g. at s e g .holds s e g; same = λ s e g. at s e g .same s e g }
   where
-    at : (s : State) → b ≤ length (s .rows) → Fit s → Within b (bump k) (one-more k) (λ k′ _. k′ ≡ suc k)
+    at : (s : State) → b ≤ length (s .rows) → Fit s → Within b (bump-to top k) (one-more k) (λ k′ _. k′ ≡ suc k)
     at s e g = let x = g .room in let y = g .cap in passed (decLt k _) _ (λ _. giving (suc k) λ _ _. refl) (λ z. z (omega arith))
 
 -- cells
@@ -833,9 +834,9 @@ module _ (n : ℕ) (c c′ : Callees) (B : Bounds n c c′) where
 none-within : {A : Type 0} {b : ℕ} {Q : A → ℕ → Type 0} → Within b (refuse Refusal.nesting) (refuse Refusal.nesting) Q
 none-within = refusing (λ z. omega arith)
 
-bounds-none : Bounds 0 (none-left bump) (none-left one-more)
+bounds-none : (top : ℕ) → largest ≤ top → Bounds 0 (none-left (bump-to top)) (none-left one-more)
 unfolding none-left
-bounds-none = record {
+bounds-none top t = record {
   ctx = λ d g h. none-within;
   infer = λ d g t h. none-within;
   universe = λ d g t h. none-within;
@@ -852,7 +853,7 @@ bounds-none = record {
   interval = λ d r h. none-within;
   comparison = λ m k strict h. none-within;
   max = λ m k h. none-within;
-  more = bumped;
+  more = bumped top t;
 }
 
 bounds-entered : (n : ℕ) (c c′ : Callees) → suc n ≤ 4200 → Bounds n c c′ → Bounds (suc n) (entered n c) (entered n c′)
@@ -878,7 +879,11 @@ bounds-entered n c c′ l B = record {
 }
 
 -- with n entries left, of 4,096, and at most 33 dimensions: the guarded walk is the walk
-pub bounds : (n : ℕ) → n ≤ 4200 → Bounds n (guarded n) (callees n)
+pub bounds-to : (top : ℕ) → largest ≤ top → (n : ℕ) → n ≤ 4200 → Bounds n (guarded-to top n) (callees n)
 unfolding callees callees-by
-bounds ℕ.zero l = bounds-none
-bounds (ℕ.suc n) l = bounds-entered n (guarded n) (callees n) l (bounds n (omega arith))
+bounds-to top t ℕ.zero l = bounds-none top t
+bounds-to top t (ℕ.suc n) l = bounds-entered n (guarded-to top n) (callees n) l (bounds-to top t n (omega arith))
+
+-- so with the guard where a word ends
+pub bounds : (n : ℕ) → n ≤ 4200 → Bounds n (guarded n) (callees n)
+bounds n l = bounds-to word (omega arith) n l

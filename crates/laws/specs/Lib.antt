@@ -1,0 +1,14 @@
+-- The laws of substitution: stated in Laws, of the functions in Transforms; of the walk's calls, by Results; and of the program's, by Program,
+-- Stores and Inside.
+pub mod Indices
+pub mod Transforms
+pub mod Squares
+pub mod Shifts
+pub mod Substs
+pub mod Tops
+pub mod Results
+pub mod Program
+pub mod Stores
+pub mod Inside
+pub mod Laws
+pub mod Examples
