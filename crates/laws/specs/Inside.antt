@@ -14,7 +14,7 @@ use Rattle.producer.specs.declared.intervals.IOp.{IOp as IOp-words}
 use Rattle.producer.specs.declared.intervals.IOp.the-variants as I
 use Rattle.producer.specs.declared.transforms.Op.{Op as Op-words}
 use Rattle.producer.specs.declared.transforms.Op.the-variants as O
-use Rattle.producer.specs.declared.state.State.{State as Counts}
+use Rattle.producer.specs.declared.State.{State as Counts}
 use Rattle.producer.specs.Machine.{Machine, Result, is, not}
 use Rattle.producer.specs.Callees.{Callees}
 use Rattle.producer.specs.Calls as P
