@@ -137,7 +137,9 @@ module _ {A : Type 0} (of : A → Thing) (same? : Discrete A) (N : ℕ) (read : 
 term-back : (o : Before) (w : Machine) (s : State) (n : ℕ) (t : Term) → Holds o w s → Cell n (term t) (s .cells) → term-of w n ≡ some t
 term-back o w s n t h c = cell-back h c
 
-interval-back : (o : Before) (w : Machine) (s : State) (n : ℕ) (r : Interval) → Holds o w s → Cell n (interval r) (s .cells) → interval-of w n ≡ some r
+interval-back :
+    (o : Before) (w : Machine) (s : State) (n : ℕ) (r : Interval) → Holds o w s → Cell n (interval r) (s .cells) →
+    interval-of w n ≡ some r
 interval-back o w s n r h c = cell-back h c
 
 op-back : {o : Before} {w : Machine} {s : State} {a : Op-words} {op : Op} → Holds o w s → Ops (s .cells) a op → op-of w a ≡ some op
@@ -152,15 +154,23 @@ unfolding _>>=_
 iop-back h i-shift = refl
 iop-back {o} {w} {s} h (i-subst {r = r} c) = rw (interval-back o w s _ r h c)
 
-made-is : {o : Before} {w : Machine} {s : State} {i : ℕ} {t : Term} {a : Op-words} {op : Op} → Holds o w s → Cell i (term t) (s .cells) → Ops (s .cells) a op → made w i a ≡ some (transform op t)
+made-is :
+    {o : Before} {w : Machine} {s : State} {i : ℕ} {t : Term} {a : Op-words} {op : Op} → Holds o w s → Cell i (term t) (s .cells) →
+    Ops (s .cells) a op →
+    made w i a ≡ some (transform op t)
 unfolding _>>=_
 made-is {o} {w} {s} {i} {t} h c p = rw (term-back o w s i t h c, op-back h p)
 
-imade-is : {o : Before} {w : Machine} {s : State} {i : ℕ} {r : Interval} {a : IOp-words} {op : IOp} → Holds o w s → Cell i (interval r) (s .cells) → IOps (s .cells) a op → imade w i a ≡ some (itransform op r)
+imade-is :
+    {o : Before} {w : Machine} {s : State} {i : ℕ} {r : Interval} {a : IOp-words} {op : IOp} → Holds o w s →
+    Cell i (interval r) (s .cells) → IOps (s .cells) a op →
+    imade w i a ≡ some (itransform op r)
 unfolding _>>=_
 imade-is {o} {w} {s} {i} {r} h c p = rw (interval-back o w s i r h c, iop-back h p)
 
-with-checks-linked : {o : Before} {rd : M (Unit {0})} (N n : ℕ) (c : Callees) (d : D.Callees) → Results Any n d d → Linked o rd c d → Linked o rd (with-checks N c) d
+with-checks-linked :
+    {o : Before} {rd : M (Unit {0})} (N n : ℕ) (c : Callees) (d : D.Callees) → Results Any n d d → Linked o rd c d →
+    Linked o rd (with-checks N c) d
 unfolding with-checks
 with-checks-linked N n c d G L = record {
   ready = L .ready;
@@ -182,11 +192,15 @@ with-checks-linked N n c d G L = record {
   lookup = L .lookup;
   dshiftctx = L .dshiftctx;
   transform = λ {t′ = t} {b = b} i op. record {
-    holds = λ w s e h. check-agrees term term? N term-of term-back (made-is h (cell-lift e i) (ops-lift e op)) (L .transform i op .holds w s e h) (G .transform t b tt .gives s);
+    holds = λ w s e h.
+        check-agrees term term? N term-of term-back (made-is h (cell-lift e i) (ops-lift e op))
+        (L .transform i op .holds w s e h) (G .transform t b tt .gives s);
   };
   under = L .under;
   itransform = λ {r = r} {b = b} i op. record {
-    holds = λ w s e h. check-agrees interval interval? N interval-of interval-back (imade-is h (cell-lift e i) (iops-lift e op)) (L .itransform i op .holds w s e h) (G .itransform r b tt .gives s);
+    holds = λ w s e h.
+        check-agrees interval interval? N interval-of interval-back (imade-is h (cell-lift e i) (iops-lift e op))
+        (L .itransform i op .holds w s e h) (G .itransform r b tt .gives s);
   };
   interval = L .interval;
   comparison = L .comparison;
@@ -225,7 +239,8 @@ checked-says {o} {w} {s} N call n e f h =
     let l = f .low in
     let g = scope-of Nil (call .types) in
     let same-limit : s .limit ≡ w .state .limit = ap (λ (c : Counts). c .limit) (sym (h .counts)) in
-    rw e (subst (λ (m : ℕ). Leaves o (s .cells) (ask (checking N m) (call .code) (call .dims) g (call .terms) (afresh w)) (play-sized (fits n) call s)) same-limit
+    let Same : ℕ → Type 0 = λ m. Leaves o (s .cells) (ask (checking N m) (call .code) (call .dims) g (call .terms) (afresh w)) (play-sized (fits n) call s) in
+    rw e (subst Same same-limit
     (asked {s = with-deepest 0 s} (s .limit) (checking-linked N (s .limit)) (call .code) (call .dims) g (call .terms)
     (omega arith) (scope-low Nil (call .types) (omega arith) (k .types)) (k .terms) f (afresh-holds h)))
 

@@ -30,6 +30,10 @@ pub record Gives {A : Type 0} (m e : M A) (Q : A → Type 0) : Type 0 where
   pub gives : (s : State) → Gave Q (m s)
   pub same : (s : State) → e s ≡ m s
 
+-- a value, with the rows for it
+abbrev pub Gives-to : {A B : Type 0} → M (A × B) → M (A × B) → A → Type 0
+Gives-to m e a = Gives m e (λ o. o .0 ≡ a)
+
 -- one lemma for each combinator
 
 module _ {A : Type 0} {Q : A → Type 0} where
@@ -85,17 +89,23 @@ pub record Falls (Fine : ℕ → ℕ → Type 0) : Type 0 where
 
 -- what each function gives, with n entries left
 pub record Results (Fine : ℕ → ℕ → Type 0) (n : ℕ) (c e : Callees) : Type 0 where
-  pub transform : (t : Term) (op : Op) → Fine n (call-top t op) → Gives (c .transform t op) (e .transform t op) (λ o. o .0 ≡ transform op t)
-  pub itransform : (r : Interval) (op : IOp) → Fine n (icall-top r op) → Gives (c .itransform r op) (e .itransform r op) (λ o. o .0 ≡ itransform op r)
-  pub under : (op : Op) (d : Bool) → Fine n (place-top op) → Gives (c .under op d) (e .under op d) (λ o. o .0 ≡ under op d)
+  pub transform : (t : Term) (op : Op) → Fine n (call-top t op) → Gives-to (c .transform t op) (e .transform t op) (transform op t)
+  pub itransform :
+      (r : Interval) (op : IOp) → Fine n (icall-top r op) →
+      Gives-to (c .itransform r op) (e .itransform r op) (itransform op r)
+  pub under : (op : Op) (d : Bool) → Fine n (place-top op) → Gives-to (c .under op d) (e .under op d) (under op d)
   pub comparison : (m k : ℕ) (strict : Bool) → Gives (c .comparison m k strict) (e .comparison m k strict) (λ _. Unit {0})
   pub more : (k : ℕ) → Fine n k → Gives (c .more k) (e .more k) (λ k′. k′ ≡ suc k)
 
-finished : {t out : Term} (r : Term) (op : Op) (rule : ℕ) (refs : List ℕ) → out ≡ t → Gives (finish r op out rule refs) (finish r op out rule refs) (λ o. o .0 ≡ t)
+finished :
+    {t out : Term} (r : Term) (op : Op) (rule : ℕ) (refs : List ℕ) → out ≡ t →
+    Gives-to (finish r op out rule refs) (finish r op out rule refs) t
 unfolding finish
 finished r op rule refs e = after _ λ _. after _ λ row. giving _ e
 
-ifinished : {q out : Interval} (r : Interval) (op : IOp) (rule : ℕ) (refs : List ℕ) → out ≡ q → Gives (ifinish r op out rule refs) (ifinish r op out rule refs) (λ o. o .0 ≡ q)
+ifinished :
+    {q out : Interval} (r : Interval) (op : IOp) (rule : ℕ) (refs : List ℕ) → out ≡ q →
+    Gives-to (ifinish r op out rule refs) (ifinish r op out rule refs) q
 unfolding ifinish
 ifinished r op rule refs e = after _ λ _. after _ λ row. giving _ e
 
@@ -117,12 +127,12 @@ module _ (Fine : ℕ → ℕ → Type 0) (F : Falls Fine) (n : ℕ) (c e : Calle
   comparison-gives m k true = branch (decLt m k) (λ _. lt-by-gives m k) (λ _. refusing _)
   comparison-gives m k false = branch (decLe m k) (λ _. le-by-gives m k) (λ _. refusing _)
 
-  idim-above-gives : (i k : ℕ) (q : Interval) → k < i → Gives (idim-above c i k q) (idim-above e i k q) (λ o. o .0 ≡ put Dim k q i)
+  idim-above-gives : (i k : ℕ) (q : Interval) → k < i → Gives-to (idim-above c i k q) (idim-above e i k q) (put Dim k q i)
   unfolding idim-above
   idim-above-gives ℕ.zero k q l = refusing _
   idim-above-gives (ℕ.suc i) k q l = bind (R .comparison _ _ _) λ _ _. ifinished _ _ _ _ (rw (put-above Dim k q i (omega arith)))
 
-  idim-gives : (i : ℕ) (op : IOp) → Fine n i → Gives (idim c i op) (idim e i op) (λ o. o .0 ≡ at-dim op i)
+  idim-gives : (i : ℕ) (op : IOp) → Fine n i → Gives-to (idim c i op) (idim e i op) (at-dim op i)
   unfolding idim
   idim-gives i (IShift k) f = branch (decLt i k)
       (λ h. bind (R .comparison _ _ _) λ _ _. ifinished _ _ _ _ (rw (up-below k i h)))
@@ -133,7 +143,9 @@ module _ (Fine : ℕ → ℕ → Type 0) (F : Falls Fine) (n : ℕ) (c e : Calle
       (λ h. bind (R .comparison _ _ _) λ _ _. ifinished _ _ _ _ (rw (put-below Dim k q i h)))
       (λ h. idim-above-gives i k q (omega arith)))
 
-  itransform-gives : (r : Interval) (op : IOp) → Fine (suc n) (icall-top r op) → Gives (itransform-body c r op) (itransform-body e r op) (λ o. o .0 ≡ itransform op r)
+  itransform-gives :
+      (r : Interval) (op : IOp) → Fine (suc n) (icall-top r op) →
+      Gives-to (itransform-body c r op) (itransform-body e r op) (itransform op r)
   unfolding itransform-body itransform
   itransform-gives I0 op f = ifinished _ _ _ _ refl
   itransform-gives I1 op f = ifinished _ _ _ _ refl
@@ -148,7 +160,7 @@ module _ (Fine : ℕ → ℕ → Type 0) (F : Falls Fine) (n : ℕ) (c e : Calle
       bind (R .itransform b op (F .next (omega arith) f)) λ o₂ h₂.
       ifinished _ _ _ _ cc
 
-  under-gives : (op : Op) (d : Bool) → Fine (suc n) (place-top op) → Gives (under-body c op d) (under-body e op d) (λ o. o .0 ≡ under op d)
+  under-gives : (op : Op) (d : Bool) → Fine (suc n) (place-top op) → Gives-to (under-body c op d) (under-body e op d) (under op d)
   unfolding under-body
   under-gives (Shift k) false f = bind (R .more k (F .next (omega arith) f)) λ k′ g. giving _ cc
   under-gives (Shift k) true f = giving _ refl
@@ -165,12 +177,12 @@ module _ (Fine : ℕ → ℕ → Type 0) (F : Falls Fine) (n : ℕ) (c e : Calle
       bind (R .more k (F .next (omega arith) f)) λ k′ g.
       giving _ cc
 
-  tvar-above-gives : (i k : ℕ) (r : Term) → k < i → Gives (tvar-above c i k r) (tvar-above e i k r) (λ o. o .0 ≡ put Var k r i)
+  tvar-above-gives : (i k : ℕ) (r : Term) → k < i → Gives-to (tvar-above c i k r) (tvar-above e i k r) (put Var k r i)
   unfolding tvar-above
   tvar-above-gives ℕ.zero k r l = refusing _
   tvar-above-gives (ℕ.suc i) k r l = bind (R .comparison _ _ _) λ _ _. finished _ _ _ _ (rw (put-above Var k r i (omega arith)))
 
-  tvar-gives : (i : ℕ) (op : Op) → Fine n i → Gives (tvar c i op) (tvar e i op) (λ o. o .0 ≡ at-var op i)
+  tvar-gives : (i : ℕ) (op : Op) → Fine n i → Gives-to (tvar c i op) (tvar e i op) (at-var op i)
   unfolding tvar
   tvar-gives i (Shift k) f = branch (decLt i k)
       (λ h. bind (R .comparison _ _ _) λ _ _. finished _ _ _ _ (rw (up-below k i h)))
@@ -183,7 +195,9 @@ module _ (Fine : ℕ → ℕ → Type 0) (F : Falls Fine) (n : ℕ) (c e : Calle
   tvar-gives i (DShift k) f = finished _ _ _ _ refl
   tvar-gives i (DSubst k r) f = finished _ _ _ _ refl
 
-  tinterval-gives : (r : Interval) (op : Op) → Fine n (max (place-top op) (interval-top r)) → Gives (tinterval c r op) (tinterval e r op) (λ o. o .0 ≡ at-interval op r)
+  tinterval-gives :
+      (r : Interval) (op : Op) → Fine n (max (place-top op) (interval-top r)) →
+      Gives-to (tinterval c r op) (tinterval e r op) (at-interval op r)
   unfolding tinterval
   tinterval-gives r (Shift k) f = giving _ refl
   tinterval-gives r (Subst k x) f = giving _ refl
@@ -191,10 +205,14 @@ module _ (Fine : ℕ → ℕ → Type 0) (F : Falls Fine) (n : ℕ) (c e : Calle
   tinterval-gives r (DSubst k q) f = bind (R .itransform r (ISubst k q) f) λ o h. giving _ h
 
   -- a part under a binder, with what `under` gave for it
-  part-gives : (t : Term) (op inner : Op) (d : Bool) {m : ℕ} → call-top t op ≤ m → inner ≡ under op d → Fine (suc n) m → Gives (c .transform t inner) (e .transform t inner) (λ o. o .0 ≡ transform (under op d) t)
+  part-gives :
+      (t : Term) (op inner : Op) (d : Bool) {m : ℕ} → call-top t op ≤ m → inner ≡ under op d → Fine (suc n) m →
+      Gives-to (c .transform t inner) (e .transform t inner) (transform (under op d) t)
   part-gives t op inner d l q f = let x = under-top op d in rw q (R .transform t (under op d) (F .next (omega arith) f))
 
-  tbinder-gives : (node : Term → Term → Term) (rule : Op → ℕ) (a b : Term) (op : Op) {m : ℕ} → call-top a op ≤ m → call-top b op ≤ m → Fine (suc n) m → Gives (tbinder c node rule a b op) (tbinder e node rule a b op) (λ o. o .0 ≡ node (transform op a) (transform (under op false) b))
+  tbinder-gives :
+      (node : Term → Term → Term) (rule : Op → ℕ) (a b : Term) (op : Op) {m : ℕ} → call-top a op ≤ m → call-top b op ≤ m → Fine (suc n) m →
+      Gives-to (tbinder c node rule a b op) (tbinder e node rule a b op) (node (transform op a) (transform (under op false) b))
   unfolding tbinder
   tbinder-gives node rule a b op l k f =
       bind (R .transform a op (F .next (omega arith) f)) λ o₁ h₁.
@@ -202,11 +220,15 @@ module _ (Fine : ℕ → ℕ → Type 0) (F : Falls Fine) (n : ℕ) (c e : Calle
       bind (part-gives b op (o₂ .0) false k h₂ f) λ o₃ h₃.
       finished _ _ _ _ cc
 
-  tprojection-gives : (node : Term → Term) (rule : Op → ℕ) (p : Term) (op : Op) → Fine (suc n) (call-top p op) → Gives (tprojection c node rule p op) (tprojection e node rule p op) (λ o. o .0 ≡ node (transform op p))
+  tprojection-gives :
+      (node : Term → Term) (rule : Op → ℕ) (p : Term) (op : Op) → Fine (suc n) (call-top p op) →
+      Gives-to (tprojection c node rule p op) (tprojection e node rule p op) (node (transform op p))
   unfolding tprojection
   tprojection-gives node rule p op f = bind (R .transform p op (F .next (omega arith) f)) λ o h. finished _ _ _ _ cc
 
-  transform-gives : (t : Term) (op : Op) → Fine (suc n) (call-top t op) → Gives (transform-body c t op) (transform-body e t op) (λ o. o .0 ≡ transform op t)
+  transform-gives :
+      (t : Term) (op : Op) → Fine (suc n) (call-top t op) →
+      Gives-to (transform-body c t op) (transform-body e t op) (transform op t)
   unfolding transform-body transform-with
   transform-gives (Universe l) op f = finished _ _ _ _ refl
   transform-gives (Var i) op f = tvar-gives i op (F .next (omega arith) f)
@@ -257,7 +279,8 @@ module _ (Fine : ℕ → ℕ → Type 0) (F : Falls Fine) (n : ℕ) (c e : Calle
   }
 
 -- the walk over any way to make the next number, m, and the same over e
-module _ {Fine : ℕ → ℕ → Type 0} (F : Falls Fine) (m e : ℕ → M ℕ) (more : (n k : ℕ) → Fine n k → Gives (m k) (e k) (λ k′. k′ ≡ suc k)) where
+module _ {Fine : ℕ → ℕ → Type 0} (F : Falls Fine) (m e : ℕ → M ℕ)
+    (more : (n k : ℕ) → Fine n k → Gives (m k) (e k) (λ k′. k′ ≡ suc k)) where
   none-left-results : Results Fine 0 (none-left m) (none-left e)
   unfolding none-left
   none-left-results = record {
@@ -286,7 +309,8 @@ results n = results-by any-falls one-more one-more (λ _ k _. giving (suc k) ref
 
 pub guarded-results : (top n : ℕ) → Results Any n (guarded-to top n) (guarded-to top n)
 unfolding bump-to
-guarded-results top n = results-by any-falls (bump-to top) (bump-to top) (λ _ k _. branch (decLt k top) (λ _. giving (suc k) refl) (λ _. refusing _)) n
+guarded-results top n =
+    results-by any-falls (bump-to top) (bump-to top) (λ _ k _. branch (decLt k top) (λ _. giving (suc k) refl) (λ _. refusing _)) n
 
 -- numbers from which no entry that is left can reach the guard
 abbrev pub Far : ℕ → ℕ → ℕ → Type 0

@@ -1,5 +1,6 @@
 -- The store of any run: what a run of bytes has left after any of its calls stands for a state of the walk (`run-store`), and no number in
--- it is near the end of a word (`store-far`, `istore-far`). That is what `Ran-transform` and `Ran-itransform` ask of the words that a call starts from.
+-- it is near the end of a word (`store-far`, `istore-far`). That is what `Ran-transform` and `Ran-itransform` ask of the words that a call
+-- starts from.
 use Prim.Native.Nat.{ℕ, _+_, _≤_, _<_}
 use mathlib.Core.Path.{_≡_}
 use mathlib.Core.List.{List, _++_}
