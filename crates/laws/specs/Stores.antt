@@ -52,7 +52,7 @@ small-nth : {m n : ℕ} {x : Thing} {xs : List Thing} → Nth n x xs → At-most
 small-nth (here e) (at-most-cons h hs) = h
 small-nth (there k) (at-most-cons h hs) = small-nth k hs
 
-small-cell : {m n : ℕ} {x : Thing} {xs : List Thing} → At-most m thing-top xs → Cell n x xs → thing-top x ≤ m
+pub small-cell : {m n : ℕ} {x : Thing} {xs : List Thing} → At-most m thing-top xs → Cell n x xs → thing-top x ≤ m
 small-cell h c = small-nth (cell-nth c) h
 
 small-op : {m : ℕ} {xs : List Thing} {a : Op-words} {op : Op} → At-most m thing-top xs → Ops xs a op → op-top op ≤ m
