@@ -25,19 +25,19 @@ use Rattle.walk.specs.Walk.Reference.{Op, Shift, Subst, DShift, DSubst, IOp, IS
 use Rattle.walk.specs.Walk as B
 use Rattle.walk.specs.Reader.{Call}
 use Rattle.walk.specs.Limits.{fits, size-call}
-use Rattle.walk.specs.Run.{scope-of, play-sized, play, run}
+use Rattle.walk.specs.Run.{scope-of, walk, run}
 use Rattle.walk.specs.Run as R
 use Rattle.order.specs.Guarded.{word, guarded}
 use Rattle.order.specs.Bound.{Fit}
-use Rattle.order.specs.Sent.{scope-low, let-in}
+use Rattle.order.specs.Sent.{scope-low, Let, let-in}
 use Rattle.link.specs.Lists.{yes?}
 use Rattle.link.specs.Things.{Cell, cell-lift, cell-number}
 use Rattle.link.specs.Holds.{Before, Holds}
 use Rattle.link.specs.Match.{Agree, both-done, both-refused, by-guard, Returns}
 use Rattle.link.specs.Linked.{Linked, Ops, o-shift, o-subst, o-dshift, o-dsubst, ops-lift, IOps, i-shift, i-subst, iops-lift}
-use Rattle.link.specs.Link.{ready, linked-none, linked-entered}
-use Rattle.link.specs.Asked.{Said, afresh, ask, ask-sized, ask-all, start}
-use Rattle.link.specs.Runs.{no-word, level-word, term-word, Says, Leaves, asked, afresh-holds, asked-sized, runs}
+use Rattle.link.specs.Link.{ready, linked-none, linked-entered, link}
+use Rattle.link.specs.Asked.{Said, afresh, ask, ask-all, start}
+use Rattle.link.specs.Runs.{no-word, level-word, term-word, Says, Leaves, asked, afresh-holds, runs}
 use Rattle.link.specs.Runs.{Results as Words}
 use Rattle.link.specs.Table.{_>>=_, term-at, interval-at}
 use Rattle.link.specs.Back.{cell-back}
@@ -108,9 +108,9 @@ unfoldable pub checking : ℕ → ℕ → Callees
 checking N ℕ.zero = with-checks N P.none-left
 checking N (ℕ.suc n) = with-checks N (P.entered n (checking N n))
 
--- a call of a run, as `ask-sized` of `link` has it, with checks
-unfoldable pub checked-call : ℕ → Call → Machine → Said × Machine
-checked-call N call w = ask (checking N (w .state .limit)) (call .code) (call .dims) (scope-of Nil (call .types)) (call .terms) (afresh w)
+-- a call of a run that is let in, over such functions: over `callees` it is what `ask-sized` of `link` asks
+unfoldable pub asked-by : (ℕ → Callees) → Call → Machine → Said × Machine
+asked-by c call w = ask (c (w .state .limit)) (call .code) (call .dims) (scope-of Nil (call .types)) (call .terms) (afresh w)
 
 -- no check fails
 
@@ -137,7 +137,9 @@ module _ {A : Type 0} (of : A → Thing) (same? : Discrete A) (N : ℕ) (read : 
 term-back : (o : Before) (w : Machine) (s : State) (n : ℕ) (t : Term) → Holds o w s → Cell n (term t) (s .cells) → term-of w n ≡ some t
 term-back o w s n t h c = cell-back h c
 
-interval-back : (o : Before) (w : Machine) (s : State) (n : ℕ) (r : Interval) → Holds o w s → Cell n (interval r) (s .cells) → interval-of w n ≡ some r
+interval-back :
+    (o : Before) (w : Machine) (s : State) (n : ℕ) (r : Interval) → Holds o w s → Cell n (interval r) (s .cells) →
+    interval-of w n ≡ some r
 interval-back o w s n r h c = cell-back h c
 
 op-back : {o : Before} {w : Machine} {s : State} {a : Op-words} {op : Op} → Holds o w s → Ops (s .cells) a op → op-of w a ≡ some op
@@ -152,15 +154,23 @@ unfolding _>>=_
 iop-back h i-shift = refl
 iop-back {o} {w} {s} h (i-subst {r = r} c) = rw (interval-back o w s _ r h c)
 
-made-is : {o : Before} {w : Machine} {s : State} {i : ℕ} {t : Term} {a : Op-words} {op : Op} → Holds o w s → Cell i (term t) (s .cells) → Ops (s .cells) a op → made w i a ≡ some (transform op t)
+made-is :
+    {o : Before} {w : Machine} {s : State} {i : ℕ} {t : Term} {a : Op-words} {op : Op} → Holds o w s → Cell i (term t) (s .cells) →
+    Ops (s .cells) a op →
+    made w i a ≡ some (transform op t)
 unfolding _>>=_
 made-is {o} {w} {s} {i} {t} h c p = rw (term-back o w s i t h c, op-back h p)
 
-imade-is : {o : Before} {w : Machine} {s : State} {i : ℕ} {r : Interval} {a : IOp-words} {op : IOp} → Holds o w s → Cell i (interval r) (s .cells) → IOps (s .cells) a op → imade w i a ≡ some (itransform op r)
+imade-is :
+    {o : Before} {w : Machine} {s : State} {i : ℕ} {r : Interval} {a : IOp-words} {op : IOp} → Holds o w s →
+    Cell i (interval r) (s .cells) → IOps (s .cells) a op →
+    imade w i a ≡ some (itransform op r)
 unfolding _>>=_
 imade-is {o} {w} {s} {i} {r} h c p = rw (interval-back o w s i r h c, iop-back h p)
 
-with-checks-linked : {o : Before} {rd : M (Unit {0})} (N n : ℕ) (c : Callees) (d : D.Callees) → Results Any n d d → Linked o rd c d → Linked o rd (with-checks N c) d
+with-checks-linked :
+    {o : Before} {rd : M (Unit {0})} (N n : ℕ) (c : Callees) (d : D.Callees) → Results Any n d d → Linked o rd c d →
+    Linked o rd (with-checks N c) d
 unfolding with-checks
 with-checks-linked N n c d G L = record {
   ready = L .ready;
@@ -182,11 +192,15 @@ with-checks-linked N n c d G L = record {
   lookup = L .lookup;
   dshiftctx = L .dshiftctx;
   transform = λ {t′ = t} {b = b} i op. record {
-    holds = λ w s e h. check-agrees term term? N term-of term-back (made-is h (cell-lift e i) (ops-lift e op)) (L .transform i op .holds w s e h) (G .transform t b tt .gives s);
+    holds = λ w s e h.
+        check-agrees term term? N term-of term-back (made-is h (cell-lift e i) (ops-lift e op))
+        (L .transform i op .holds w s e h) (G .transform t b tt .gives s);
   };
   under = L .under;
   itransform = λ {r = r} {b = b} i op. record {
-    holds = λ w s e h. check-agrees interval interval? N interval-of interval-back (imade-is h (cell-lift e i) (iops-lift e op)) (L .itransform i op .holds w s e h) (G .itransform r b tt .gives s);
+    holds = λ w s e h.
+        check-agrees interval interval? N interval-of interval-back (imade-is h (cell-lift e i) (iops-lift e op))
+        (L .itransform i op .holds w s e h) (G .itransform r b tt .gives s);
   };
   interval = L .interval;
   comparison = L .comparison;
@@ -215,28 +229,35 @@ says-same h k = λ i. record {
   deepest = (h .deepest ∙ sym (k .deepest)) i;
 }
 
-checked-says :
-    {o : Before} {w : Machine} {s : State} (N : ℕ) (call : Call) (n : ℕ) → size-call call ≡ fits n → Fit s → Holds o w s →
-    Leaves o (s .cells) (checked-call N call w) (play call s)
-unfolding checked-call play play-sized with-deepest
-checked-says {o} {w} {s} N call n e f h =
-    let k = let-in call n e in
+-- what the walk answers and leaves
+walked : Call → State → R.Answer × State
+walked call s = walk (B.callees (s .limit)) (call .code) (call .dims) (scope-of Nil (call .types)) (call .terms) (with-deepest 0 s)
+
+-- a call answers as the walk does, over any functions that match the guarded walk's
+says-so :
+    {o : Before} {w : Machine} {s : State} (c : ℕ → Callees) → ((n : ℕ) → Linked o (ready n) (c n) (guarded n)) →
+    (call : Call) → Let call → Fit s → Holds o w s → Leaves o (s .cells) (asked-by c call w) (walked call s)
+unfolding asked-by walked with-deepest
+says-so {o} {w} {s} c L call k f h =
     let d = k .dims in
     let l = f .low in
     let g = scope-of Nil (call .types) in
-    let same-limit : s .limit ≡ w .state .limit = ap (λ (c : Counts). c .limit) (sym (h .counts)) in
-    rw e (subst (λ (m : ℕ). Leaves o (s .cells) (ask (checking N m) (call .code) (call .dims) g (call .terms) (afresh w)) (play-sized (fits n) call s)) same-limit
-    (asked {s = with-deepest 0 s} (s .limit) (checking-linked N (s .limit)) (call .code) (call .dims) g (call .terms)
-    (omega arith) (scope-low Nil (call .types) (omega arith) (k .types)) (k .terms) f (afresh-holds h)))
+    let same-limit : s .limit ≡ w .state .limit = ap (λ (n : Counts). n .limit) (sym (h .counts)) in
+    subst (λ (m : ℕ). Leaves o (s .cells) (ask (c m) (call .code) (call .dims) g (call .terms) (afresh w)) (walked call s)) same-limit
+    (asked {s = with-deepest 0 s} (s .limit) (L (s .limit)) (call .code) (call .dims) g (call .terms)
+    (omega arith) (scope-low Nil (call .types) (omega arith) (k .types)) (k .terms) f (afresh-holds h))
 
--- For all bytes and all slices: each call of a run that is let in, from what the calls before it left, gives the same answer with checks as
+-- For all bytes and all slices: each call of a run that is let in, from what the calls before it left, has the same answer with checks as
 -- without, whatever the number N is that a check would stop it with.
 pub run-checked :
     (N : ℕ) (rows cells answers bytes : List ℕ) (first others : List Call) (call : Call) (n : ℕ) →
     let ran = run (length rows) (length cells) (length answers) bytes in
     ran .calls ≡ first ++ call ∷ others → size-call call ≡ fits n →
     let w = ask-all first (start (ran .limit) rows cells) .1 in
-    checked-call N call w .0 ≡ ask-sized (size-call call) call w .0
+    asked-by (checking N) call w .0 ≡ asked-by P.callees call w .0
 run-checked N rows cells answers bytes first others call n q e =
     let r = runs _ rows cells first (limit-most (length rows) (length cells) (length answers) bytes) in
-    says-same (checked-says N call n e (r .fit) (r .holds) .says) (asked-sized call (r .fit) (r .holds) .says)
+    let k = let-in call n e in
+    says-same
+    (says-so (checking N) (λ m. checking-linked N m) call k (r .fit) (r .holds) .says)
+    (says-so P.callees (λ m. link m) call k (r .fit) (r .holds) .says)

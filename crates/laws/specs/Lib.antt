@@ -10,5 +10,6 @@ pub mod Results
 pub mod Program
 pub mod Stores
 pub mod Inside
+pub mod Runs
 pub mod Laws
 pub mod Examples

@@ -1,5 +1,6 @@
 -- The store of any run: what a run of bytes has left after any of its calls stands for a state of the walk (`run-store`), and no number in
--- it is near the end of a word (`store-far`, `istore-far`). That is what `Ran-transform` and `Ran-itransform` ask of the words that a call starts from.
+-- it is near the end of a word (`store-far`, `istore-far`). That is what `Ran-transform` and `Ran-itransform` ask of the words that a call
+-- starts from.
 use Prim.Native.Nat.{ℕ, _+_, _≤_, _<_}
 use mathlib.Core.Path.{_≡_}
 use mathlib.Core.List.{List, _++_}
@@ -51,7 +52,7 @@ small-nth : {m n : ℕ} {x : Thing} {xs : List Thing} → Nth n x xs → At-most
 small-nth (here e) (at-most-cons h hs) = h
 small-nth (there k) (at-most-cons h hs) = small-nth k hs
 
-small-cell : {m n : ℕ} {x : Thing} {xs : List Thing} → At-most m thing-top xs → Cell n x xs → thing-top x ≤ m
+pub small-cell : {m n : ℕ} {x : Thing} {xs : List Thing} → At-most m thing-top xs → Cell n x xs → thing-top x ≤ m
 small-cell h c = small-nth (cell-nth c) h
 
 small-op : {m : ℕ} {xs : List Thing} {a : Op-words} {op : Op} → At-most m thing-top xs → Ops xs a op → op-top op ≤ m
