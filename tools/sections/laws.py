@@ -1,8 +1,9 @@
 """crates/laws: the transforms as functions, and the proofs that go part by part with the binders that the table names."""
 from .common import INTERVALS, TERMS, is_number, node, parts_of, section
+from .link import back, read_node
 
 SPECS = 'crates/laws/specs/'
-TRANSFORMS, SQUARES, TOPS = (SPECS + f + '.antt' for f in ('Transforms', 'Squares', 'Tops'))
+TRANSFORMS, SQUARES, TOPS, CELLS = (SPECS + f + '.antt' for f in ('Transforms', 'Squares', 'Tops', 'Cells'))
 
 BINDER = {'variable': 'false', 'dimension': 'true'}
 
@@ -85,3 +86,9 @@ def shift_top(k):
 
 each(TOPS, 'an interval', INTERVALS, lambda k: 'ishift-top k %s = ' % node(k) + ('up-low k n' if is_number(k) else lets(k, lambda p, v: 'ishift-top k ' + v)))
 each(TOPS, 'a term', TERMS, shift_top)
+
+# ---- Cells: a term with the parts that a quote leaves out
+
+AT = {'term': 'at', 'interval': 'iat'}
+each(CELLS, 'a term', TERMS, lambda k: 'term-by at iat k-%s a b c = %s' % (k.tag, read_node(k, k.node, k.parts, AT)))
+each(CELLS, 'terms', TERMS, lambda k: back(k, 'term', k.parts))

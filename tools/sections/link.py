@@ -1,6 +1,6 @@
 """crates/link: what words stand for (Tables, whole), how they are read, and a clause for each kind or judgment where what is done is
 the same for all. crates/producer: what makes a cell of each kind."""
-from .common import (ALL, INTERVALS, JUDGMENTS, NODE_TYPES, TERMS, applied, cells, for_both, is_number, judgment, nested, node, parts_of,
+from .common import (ALL, CONTEXTS, INTERVALS, JUDGMENTS, NODE_TYPES, TERMS, applied, cells, for_both, is_number, judgment, nested, node, parts_of,
                      section, vars_of)
 
 SPECS = 'crates/link/specs/'
@@ -47,10 +47,18 @@ def _():
     return ['quote-by at iat k-%s a b c = %s' % (k.tag, read_node(k, k.name, [p for p in k.parts if p.shown], at)) for k in TERMS]
 
 
-@section(TABLE, 'a term')
+# The constructors of a thing, as Table names them.
+THINGS = {'term': 'term', 'interval': 'S.interval', 'context': 'S.context'}
+
+
+@section(TABLE, 'words of a cell')
 def _():
-    at = {'term': 'at', 'interval': 'iat'}
-    return ['term-by at iat k-%s a b c = %s' % (k.tag, read_node(k, k.node, k.parts, at)) for k in TERMS]
+    out = []
+    for sort, kinds in (('term', TERMS), ('interval', INTERVALS), ('context', CONTEXTS)):
+        for k in kinds:
+            words = ['(some n)' if p.sort == 'number' else '(cell xs (%s %s))' % (THINGS[p.sort], v) for p, v in parts_of(k)]
+            out.append('cell-words xs (%s %s) = four %d %s' % (THINGS[sort], node(k), k.byte, ' '.join((words + ['(some 0)'] * 3)[:3])))
+    return out
 
 
 READERS = {'term': 'a-quote', 'interval': 'an-interval', 'context': 'a-context'}
@@ -193,7 +201,32 @@ section(OPEN, 'opening an interval')(lambda: opening('interval', INTERVALS, 'Int
 section(OPEN, 'opening a term')(lambda: opening('term', TERMS, 'Term', 't'))
 
 
-# ---- Back: what is read back from words
+# ---- Back: a cell's words and its shape; what is read back from words
+
+def of_sort(k):
+    return 'term' if k in TERMS else 'interval' if k in INTERVALS else 'context'
+
+
+@section(BACK, 'words of a shape')
+def _():
+    out = []
+    for k in ALL:
+        held = 'xyz'[:len(cells(k.parts))]
+        out.append('shape-words %s = %s' % (shape(k), 'rw (%s)' % ', '.join('← cell-is ' + x for x in held) if held else 'refl'))
+    return out
+
+
+@section(BACK, 'shape of the words')
+def _():
+    out = []
+    for k in ALL:
+        places = ['first', 'second', 'third']
+        numbers = ['some-is (w .%s)' % q for n, q in enumerate(places) if n >= len(k.parts) or k.parts[n].sort == 'number']
+        held = ['(is-cell (w .%s))' % q for q, p in zip(places, k.parts) if p.sort != 'number']
+        out.append('words-shape (%s %s) p e = let w = same-words e in rw (%s) %s' % (
+            of_sort(k), node(k), ', '.join(['w .kind'] + numbers), applied('s-' + k.word, held)))
+    return out
+
 
 def back(k, sort, parts):
     """The parts that count, each by what is known of its own cell."""
@@ -205,7 +238,7 @@ def back(k, sort, parts):
     def fact(m, p):
         if p.sort == sort:
             return 'ih _ _ (omega arith) (%s .1)' % m
-        return 'lowered (%s-at f (ws ++ rest)) (%s .0) (%s-back f _ _ (omega arith) (%s .1))' % (p.sort, m, p.sort, m)
+        return 'lowered (%s-at f C) (%s .0) (%s-back f _ _ (omega arith) (%s .1))' % (p.sort, m, p.sort, m)
     return 'go ih at %s = %srw (%s)' % (shape(k), lets, ', '.join(fact(m, p) for _, m, p in letters))
 
 
@@ -217,11 +250,6 @@ def _():
 @section(BACK, 'quotes')
 def _():
     return [back(k, 'term', [p for p in k.parts if p.shown]) for k in TERMS]
-
-
-@section(BACK, 'terms')
-def _():
-    return [back(k, 'term', k.parts) for k in TERMS]
 
 
 READ = {'term': 'quote-read', 'interval': 'interval-read', 'context': 'context-read'}
@@ -246,7 +274,7 @@ def _():
             p = j.parts[n] if n < len(j.parts) else None
             if p and p.sort != 'number':
                 held.append('h%d' % len(held))
-                facts.append('%s = %s rest cs %s' % (place, READ[p.sort], held[-1]))
+                facts.append('%s = low-is %s' % (place, held[-1]))
             else:
                 facts.append('%s = refl' % place)
         out.append('told %s = record { %s }' % (applied('j-' + j.name, held), '; '.join(facts)))

@@ -39,8 +39,8 @@ use Rattle.link.specs.Link.{ready, linked-none, linked-entered, link}
 use Rattle.link.specs.Asked.{Said, afresh, ask, ask-all, start}
 use Rattle.link.specs.Runs.{no-word, level-word, term-word, Says, Leaves, asked, afresh-holds, runs}
 use Rattle.link.specs.Runs.{Results as Words}
-use Rattle.link.specs.Table.{_>>=_, term-at, interval-at}
-use Rattle.link.specs.Back.{cell-back}
+use Rattle.link.specs.Table.{_>>=_, interval-at}
+use Rattle.laws.specs.Cells.{term-at, term-back as read-term, interval-read}
 use Rattle.laws.specs.Transforms.{itransform, transform}
 use Rattle.laws.specs.Results.{Gave, Results, Any, guarded-results}
 use Rattle.laws.specs.Stores.{limit-most}
@@ -135,12 +135,12 @@ module _ {A : Type 0} (of : A → Thing) (same? : Discrete A) (N : ℕ) (read : 
   check-agrees q by-guard g = by-guard
 
 term-back : (o : Before) (w : Machine) (s : State) (n : ℕ) (t : Term) → Holds o w s → Cell n (term t) (s .cells) → term-of w n ≡ some t
-term-back o w s n t h c = cell-back h c
+term-back o w s n t h c = read-term h c
 
 interval-back :
     (o : Before) (w : Machine) (s : State) (n : ℕ) (r : Interval) → Holds o w s → Cell n (interval r) (s .cells) →
     interval-of w n ≡ some r
-interval-back o w s n r h c = cell-back h c
+interval-back o w s n r h c = interval-read h c
 
 op-back : {o : Before} {w : Machine} {s : State} {a : Op-words} {op : Op} → Holds o w s → Ops (s .cells) a op → op-of w a ≡ some op
 unfolding _>>=_

@@ -7,6 +7,7 @@ pub mod Shifts
 pub mod Substs
 pub mod Tops
 pub mod Results
+pub mod Cells
 pub mod Program
 pub mod Stores
 pub mod Inside

@@ -2,6 +2,7 @@
 use Prim.Native.Nat.{ℕ, _/_, min}
 use mathlib.Core.List.{List, [], _∷_, _++_}
 use lib.ListN.{length, drop}
+use Rattle.ast.specs.Cells.{quote-of}
 use Rattle.producer.specs.Machine.{Machine, machine, new-state, fresh, Result, is, not, W, _>>=_, intern, make-universe, make-var, make-nat, make-zero, make-pi, make-lam, make-app, make-path, make-plam, make-papp, make-sigma, make-pair, make-fst, make-snd, make-i0, make-i1, make-dim, make-neg, make-meet, make-join, make-nil, make-cons}
 use Rattle.producer.specs.Callees.{Callees}
 use Rattle.producer.specs.Calls.{callees}
@@ -73,17 +74,21 @@ pub record Said : Type 0 where
   pub result : ℕ
   pub deepest : ℕ
 
-unfoldable pub told : {C : Type 0} → (C → ℕ) → (C → ℕ) → Result C → Said × Machine
-told row result (is c w) = (record { number = 0; row = row c; result = result c; deepest = w .state .deepest }, w)
+unfoldable pub told : {C : Type 0} → (C → ℕ) → (C → Machine → ℕ) → Result C → Said × Machine
+told row result (is c w) = (record { number = 0; row = row c; result = result c w; deepest = w .state .deepest }, w)
 told row result (not n w) = (record { number = n; row = 4294967295; result = 0; deepest = w .state .deepest }, w)
 
+-- a result that is a term is the lowest cell with its quote
+abbrev pub lowest-of : ℕ × ℕ → Machine → ℕ
+lowest-of out w = quote-of (w .cells) (out .0)
+
 unfoldable pub ask : Callees → Code → ℕ → Context → List Term → Machine → Said × Machine
-ask c c-context d g ts w = told (λ row. row) (λ row. 0) (call-ctx c d g w)
-ask c c-universe d g ts w = told (λ out. out .1) (λ out. out .0) (call-universe c d g (nth ts 0) w)
-ask c c-infer d g ts w = told (λ out. out .1) (λ out. out .0) (call-infer c d g (nth ts 0) w)
-ask c c-check d g ts w = told (λ row. row) (λ row. 0) (call-check c d g (nth ts 0) (nth ts 1) w)
-ask c c-normalise d g ts w = told (λ out. out .1) (λ out. out .0) (call-normalize c d g (nth ts 0) (nth ts 1) w)
-ask c c-equal d g ts w = told (λ row. row) (λ row. 0) (call-equal c d g (nth ts 0) (nth ts 1) (nth ts 2) w)
+ask c c-context d g ts w = told (λ row. row) (λ row w. 0) (call-ctx c d g w)
+ask c c-universe d g ts w = told (λ out. out .1) (λ out w. out .0) (call-universe c d g (nth ts 0) w)
+ask c c-infer d g ts w = told (λ out. out .1) lowest-of (call-infer c d g (nth ts 0) w)
+ask c c-check d g ts w = told (λ row. row) (λ row w. 0) (call-check c d g (nth ts 0) (nth ts 1) w)
+ask c c-normalise d g ts w = told (λ out. out .1) lowest-of (call-normalize c d g (nth ts 0) (nth ts 1) w)
+ask c c-equal d g ts w = told (λ row. row) (λ row w. 0) (call-equal c d g (nth ts 0) (nth ts 1) (nth ts 2) w)
 
 -- a call that is not let in
 abbrev pub turned : ℕ → Said

@@ -15,6 +15,7 @@ use Rattle.order.specs.Numbers.{context-top, term-top}
 use Rattle.order.specs.Guarded.{guarded}
 use Rattle.order.specs.Bound.{Fit, After, fine, stopped, Within, bounds}
 use Rattle.link.specs.Lists.{first, Extends, same, no-block, blocks-length, stays}
+use Rattle.link.specs.Things.{none-distinct}
 use Rattle.link.specs.Store.{no-memory, Remembers}
 use Rattle.link.specs.Holds.{Before, Holds}
 use Rattle.link.specs.Match.{Agree, both-done, both-refused, by-guard, Matches, Same, Pairs, Returns}
@@ -30,7 +31,7 @@ nothing-yet k = no-memory
 pub starts : (limit : ℕ) (rows cells : List ℕ) → Holds (record { rows = rows; cells = cells }) (start limit rows cells) (walk-start limit (length rows) (length cells))
 unfolding start walk-start
 starts limit rows cells = record {
-  words = record { cells-used = []; rows-used = []; cells-are = no-block; rows-are = no-block; memory = nothing-yet; cells-end = refl; rows-end = refl };
+  words = record { cells-used = []; rows-used = []; cells-are = no-block; rows-are = no-block; memory = nothing-yet; distinct = none-distinct; cells-end = refl; rows-end = refl };
   counts = refl;
   cells-fit = omega arith;
   rows-fit = omega arith;

@@ -5,11 +5,11 @@ use mathlib.Core.List.{List, [], _∷_}
 use mathlib.Core.Option.{Option, some}
 use lib.ListN.{replicate}
 use Rattle.producer.specs.Machine.{Machine}
-use Rattle.walk.specs.Syntax.{Term, Var, Nat, Zero, Lam, nat, zero, nil}
+use Rattle.walk.specs.Syntax.{Term, Universe, Var, Nat, Zero, Pi, Lam, nat, zero, nil}
 use Rattle.walk.specs.Judgment.{ctx, has}
 use Rattle.walk.specs.Rule as R
 use Rattle.walk.specs.State.{Row}
-use Rattle.walk.specs.Reader.{c-infer, c-check, Call}
+use Rattle.walk.specs.Reader.{c-infer, c-check, c-normalise, Call}
 use Rattle.link.specs.Asked.{Said, ask-all, start}
 use Rattle.link.specs.Table.{table-at}
 use Rattle.link.specs.Opened.{opened}
@@ -26,6 +26,9 @@ table (said, w) = table-at (w .state .rows) (w .state .cells) (w .rows) (w .cell
 
 abbrev infer : List Term → Term → Call
 infer types t = record { code = c-infer; dims = 0; types = types; terms = t ∷ [] }
+
+abbrev normalise : Term → Term → Call
+normalise t ty = record { code = c-normalise; dims = 0; types = []; terms = t ∷ ty ∷ [] }
 
 abbrev check : Term → Term → Call
 check t ty = record { code = c-check; dims = 0; types = []; terms = t ∷ ty ∷ [] }
@@ -51,6 +54,11 @@ var-answers = refl
 lam-answers : left (asked (infer [] (Lam Nat (Var 0)) ∷ [])) ≡ (said 0 7 9 5 ∷ [], 8, 11)
 unfolding opened
 lam-answers = refl
+
+-- normalise lam(nat, zero) at (pi nat nat), then lam(u 0, zero), which has the same quote, at (pi (u 0) nat): both results are cell 3
+two-lams-answers : left (asked (normalise (Lam Nat Zero) (Pi Nat Nat) ∷ normalise (Lam (Universe 0) Zero) (Pi (Universe 0) Nat) ∷ [])) ≡ (said 0 6 3 7 ∷ said 0 12 3 7 ∷ [], 13, 19)
+unfolding opened
+two-lams-answers = refl
 
 -- infer v 0 in no context: 8, one row
 none-answers : left (asked (infer [] (Var 0) ∷ [])) ≡ (said 8 4294967295 0 2 ∷ [], 1, 2)

@@ -1,5 +1,5 @@
 -- The model over words (the crate `producer`) answers what the definition of the run answers, and its words hold the run's table.
--- What a contract may cite: Asked, Table, Words. The rest is the proof.
+-- What a contract may cite: Things, Asked, Table, Words. The rest is the proof.
 
 -- what words stand for
 pub mod Lists

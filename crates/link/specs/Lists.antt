@@ -3,6 +3,7 @@
 use Prim.Native.Nat.{ℕ, _-_, _+_, _*_, _≤_, _<_}
 use mathlib.Core.Path.{_≡_, refl, sym, ap, _∙_, subst}
 use mathlib.Core.List.{List, [], _∷_, _++_, append-assoc}
+use mathlib.Core.Option.{Option, none, some}
 use mathlib.Core.Bool.{Bool, true, false}
 use native.Mathlib.Omega.{arith}
 use lib.ListN.{length, getD, drop, length-append, List·getD-append}
@@ -16,6 +17,10 @@ use Rattle.ast.specs.declared.cells.Found.the-variants.{At, Nothing}
 abbrev pub yes? : {P : Type 0} → Dec P → Bool
 yes? (yes h) = true
 yes? (no h) = false
+
+abbrev pub found-of : Option ℕ → Found
+found-of (some n) = At n
+found-of none = Nothing
 
 module _ {A : Type 0} where
   -- the number of the first that passes
@@ -95,8 +100,11 @@ module _ {A : Type 0} {z : ℕ} {B : List A → A → List ℕ → Type 0} where
   blocks-length no-block = rw zero-mul
   blocks-length (block {xs = xs} {ws = ws} {bs = bs} b e h) = rw (length-append, blocks-length h, e, suc-mul)
 
+  pub last-block : {xs : List A} {ws : List ℕ} (bs rest : List ℕ) → length bs ≡ z → Blocks z B xs ws → (k : ℕ) → k < z → getD ((ws ++ bs) ++ rest) (length xs * z + k) 0 ≡ getD bs k 0
+  last-block bs rest s h k l = rw (append-assoc, ← blocks-length h, getD-append-add) (List·getD-append bs rest 0 k (subst (λ (m : ℕ). k < m) (sym s) l))
+
   pub read : {n : ℕ} {x : A} {xs : List A} {ws : List ℕ} (rest : List ℕ) → Nth n x xs → Blocks z B xs ws → Read z B n x xs (ws ++ rest)
-  read {n} rest (here e) (block {xs = xs} {ws = ws} {bs = bs} b s h) = record { below = xs; words = bs; place = e; is = b; under = same; at = λ k l. rw (append-assoc, e, ← blocks-length h, getD-append-add) (List·getD-append bs rest 0 k (subst (λ (m : ℕ). k < m) (sym s) l)) }
+  read {n} rest (here e) (block {xs = xs} {ws = ws} {bs = bs} b s h) = record { below = xs; words = bs; place = e; is = b; under = same; at = λ k l. rw e (last-block bs rest s h k l) }
   read rest (there k) (block {ws = ws} {bs = bs} b e h) = let r = read (bs ++ rest) k h in record { below = r .below; words = r .words; place = r .place; is = r .is; under = more (r .under); at = λ k l. rw append-assoc (r .at k l) }
 
 -- one more block, written over what is past the words

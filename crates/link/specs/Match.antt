@@ -26,10 +26,10 @@ use Rattle.walk.specs.Judgment.{Judgment}
 use Rattle.walk.specs.State.{State, Thing, term, interval, context, inference, key, row-of, of-interval, of-term, of-context, Outcome, done, refused, M, go-on, looking, pure, refuse, if_then_else_, from_get_or_, count, count-all, with-cell, push, with-row, note, with-deepest, recall, with-memory, store}
 use Rattle.walk.specs.State as D
 use Rattle.order.specs.Guarded.{beyond}
-use Rattle.link.specs.Lists.{yes?, first, Extends, same, more, extends-trans, first-found}
+use Rattle.link.specs.Lists.{yes?, found-of, first, Extends, same, more, extends-trans, first-found}
 use Rattle.link.specs.Things.{show, Cell, Low, is-thing, shows, cell-lift, Plain, Held, held, Known, none-left, known, known-append, known-head, held-lift}
 use Rattle.link.specs.Tables.{Shape, s-lift, s-plain, Spoken, j-lift}
-use Rattle.link.specs.Store.{refs-of, plain, line, Cells, cell-by, quote-is, node-test, looks, look-test, row-test, found-of, rows-found, among-found, among-none, comes, lowest-comes, interval-known, term-known, context-known, Kept, no-memory, a-memory-at, memory-test}
+use Rattle.link.specs.Store.{refs-of, plain, line, Cells, cell-by, quote-is, node-test, looks, look-test, row-test, rows-found, among-found, among-none, comes, lowest-comes, interval-known, term-known, context-known, Kept, no-memory, a-memory-at, memory-test}
 use Rattle.link.specs.Holds.{Before, Holds, less, read-cell, more-cells, more-rows, no-cell-children, no-row-children, found-node, found-look, found-row, converted, deeper, replaced-holds, added-holds}
 
 -- both end alike; nothing is said where the guard stops the walk (never met)
@@ -151,7 +151,7 @@ interning {o} {xs} {k} {a} {b} {c} {x} shape = record { holds = λ w s e h. rw (
     searched w s e h = rw (h .counts, found-node (h .cells-index) k a b c) (first-found (is-thing x) (same-node (w .cells) k a b c) (s .cells) (λ n y m. rw (h .words .cells-end) (node-test (drop (length (s .cells) * 8) (o .cells)) (s-lift e shape) (h .words .cells-are) m)))
 
     new : (w : Machine) (s : State) → Extends xs (s .cells) → Holds o w s → first (is-thing x) (s .cells) ≡ Nothing → (d : Dec (length (s .cells) < s .cell-room)) → (t : Bool) → t ≡ yes? d → Agree {A = Unit {0}} o xs (λ n _ ys. Cell n x ys) (ifb t (is (w .state .cells) (add-cell (k ∷ a ∷ b ∷ c ∷ lowest-of (w .cells) (w .state .cells) k a b c ∷ 0 ∷ 0 ∷ 0 ∷ []) w)) (not Refusal.cells w)) (fresh x s d)
-    new w s e h f (yes l) true g = both-done {b = w .state .cells} {s = with-cell x s} (more e) (more-cells (s-plain shape .1) h (plain (s-lift e shape) (low shape w s e h)) refl (no-cell-children k a b c _ 0) l) (rw (h .counts) (comes x (s .cells) f))
+    new w s e h f (yes l) true g = both-done {b = w .state .cells} {s = with-cell x s} (more e) (more-cells (s-plain shape .1) f h (plain (s-lift e shape) (low shape w s e h)) refl (no-cell-children k a b c _ 0) l) (rw (h .counts) (comes x (s .cells) f))
     new w s e h f (yes l) false g = let z : _≡_ {A = ℕ} 0 1 = cc in absurd (omega arith)
     new w s e h f (no l) true g = let z : _≡_ {A = ℕ} 0 1 = cc in absurd (omega arith)
     new w s e h f (no l) false g = both-refused e h

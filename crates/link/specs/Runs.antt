@@ -5,11 +5,12 @@ use mathlib.Core.Path.{_≡_, refl, sym, subst, ap}
 use mathlib.Core.List.{List, [], _∷_}
 use native.Mathlib.Omega.{arith}
 use lib.ListN.{length}
+use Rattle.ast.specs.Cells.{quote-of}
 use Rattle.producer.specs.declared.State.{State as Counts}
 use Rattle.producer.specs.Machine.{Machine, Result}
 use Rattle.producer.specs.Callees.{Callees}
 use Rattle.producer.specs.Calls.{callees}
-use Rattle.walk.specs.Syntax.{Term, Context, Nil}
+use Rattle.walk.specs.Syntax.{Term, Context, Nil, quote}
 use Rattle.walk.specs.State.{State, Thing, term, Outcome, with-deepest}
 use Rattle.walk.specs.Walk.{callees as walk-callees}
 use Rattle.walk.specs.Reader.{Code, c-context, c-universe, c-infer, c-check, c-normalise, c-equal, Call}
@@ -22,18 +23,19 @@ use Rattle.order.specs.Bound.{Fit}
 use Rattle.order.specs.Sent.{Lows, nth-low, scope-low, let-in}
 use Rattle.order.specs.Never.{start-fits}
 use Rattle.link.specs.Lists.{Extends, same, extends-trans}
-use Rattle.link.specs.Things.{Cell, cell-lift}
-use Rattle.link.specs.Holds.{Before, Holds}
+use Rattle.link.specs.Things.{a-quote, Cell, Low, low-lift}
+use Rattle.link.specs.Store.{quote-is}
+use Rattle.link.specs.Holds.{Before, Holds, read-cell}
 use Rattle.link.specs.Linked.{Linked}
 use Rattle.link.specs.Link.{ready, link}
 use Rattle.link.specs.Asked.{Said, told, ask, turned, afresh, ask-sized, ask-all, start}
 use Rattle.link.specs.Ends.{starts, Ends, in-value, in-refusal, contexted, levelled, inferred, checked, normalised, equalled}
 
--- the result word: a level, a cell of a term, or 0
+-- the result word: a level, the lowest cell with the quote of a term, or 0
 pub data Results (xs : List Thing) : ℕ → R.Result → Type 0 where
   no-word : Results xs 0 no-result
   level-word : {l m : ℕ} → l ≡ m → Results xs l (a-level m)
-  term-word : {n : ℕ} {t : Term} → Cell n (term t) xs → Results xs n (a-term t)
+  term-word : {n : ℕ} {t : Term} → Low n (a-quote (quote t)) xs → Results xs n (a-term t)
 
 pub record Says (xs : List Thing) (a : Said) (b : Answer) : Type 0 where
   pub number : a .number ≡ b .number
@@ -44,7 +46,7 @@ pub record Says (xs : List Thing) (a : Said) (b : Answer) : Type 0 where
 results-lift : {xs ys : List Thing} {n : ℕ} {r : R.Result} → Extends xs ys → Results xs n r → Results ys n r
 results-lift e no-word = no-word
 results-lift e (level-word q) = level-word q
-results-lift e (term-word c) = term-word (cell-lift e c)
+results-lift e (term-word l) = term-word (low-lift e l)
 
 says-lift : {xs ys : List Thing} {a : Said} {b : Answer} → Extends xs ys → Says xs a b → Says ys a b
 says-lift e s = record { number = s .number; row = s .row; deepest = s .deepest; result = results-lift e (s .result) }
@@ -56,26 +58,30 @@ pub record Leaves (o : Before) (xs : List Thing) (x : Said × Machine) (y : Answ
   pub fit : Fit (y .1)
   pub says : Says (y .1 .cells) (x .0) (y .0)
 
--- of a value: the row, and the result
-pub record Fits {A C : Type 0} (row : C → ℕ) (result : C → ℕ) (row′ : A → ℕ) (result′ : A → R.Result) (c : C) (a : A) (xs : List Thing) : Type 0 where
+-- of a value: the row, and the result, by the words that are left
+pub record Fits {A C : Type 0} (row : C → ℕ) (result : C → Machine → ℕ) (row′ : A → ℕ) (result′ : A → R.Result) (c : C) (a : A) (w : Machine) (xs : List Thing) : Type 0 where
   pub same-row : row c ≡ row′ a
-  pub same-result : Results xs (result c) (result′ a)
+  pub same-result : Results xs (result c w) (result′ a)
 
-module _ {A C : Type 0} {o : Before} {xs : List Thing} {Q : C → A → List Thing → Type 0} (row : C → ℕ) (result : C → ℕ) (row′ : A → ℕ) (result′ : A → R.Result) (f : (c : C) (a : A) (ys : List Thing) → Q c a ys → Fits row result row′ result′ c a ys) where
+module _ {A C : Type 0} {o : Before} {xs : List Thing} {Q : C → A → List Thing → Type 0} (row : C → ℕ) (result : C → Machine → ℕ) (row′ : A → ℕ) (result′ : A → R.Result) (f : (c : C) (a : A) (w : Machine) (s : State) → Holds o w s → Q c a (s .cells) → Fits row result row′ result′ c a w (s .cells)) where
   leaves : {r : Result C} {d : Outcome A} → Ends o xs Q r d → Leaves o xs (told row result r) (answered row′ result′ d)
   unfolding told answered
-  leaves (in-value {a = a} {b = c} {s = s} e h g q) = let p = f c a (s .cells) q in record { extends = e; holds = h; fit = g; says = record { number = refl; row = p .same-row; deepest = ap (λ (n : Counts). n .deepest) (h .counts); result = p .same-result } }
+  leaves (in-value {a = a} {b = c} {w = w} {s = s} e h g q) = let p = f c a w s h q in record { extends = e; holds = h; fit = g; says = record { number = refl; row = p .same-row; deepest = ap (λ (n : Counts). n .deepest) (h .counts); result = p .same-result } }
   leaves (in-refusal e h g) = record { extends = e; holds = h; fit = g; says = record { number = refl; row = refl; deepest = ap (λ (n : Counts). n .deepest) (h .counts); result = no-word } }
+
+-- the lowest cell with the quote of a term stands in its cell
+low-word : {o : Before} {w : Machine} {s : State} {n : ℕ} {t : Term} → Holds o w s → Cell n (term t) (s .cells) → Results (s .cells) (quote-of (w .cells) n) (a-term t)
+low-word {w = w} {n = n} {t = t} h c = let r = read-cell {x = term t} tt c same h in term-word {n = quote-of (w .cells) n} {t = t} (rw (quote-is r) (r .lowest))
 
 -- over any functions that match the guarded walk's
 pub asked : {o : Before} {w : Machine} {s : State} {c : Callees} (n : ℕ) → Linked o (ready n) c (guarded n) → (code : Code) (d : ℕ) (g : Context) (ts : List Term) → d + n ≤ 4200 → context-top g ≤ 32 → Lows ts → Fit s → Holds o w s → Leaves o (s .cells) (ask c code d g ts w) (walk (walk-callees n) code d g ts s)
 unfolding ask walk
-asked n L c-context d g ts l i k f h = leaves _ _ _ _ (λ c a ys q. record { same-row = q; same-result = no-word }) (contexted n L d g l i f h)
-asked n L c-universe d g ts l i k f h = leaves _ _ _ _ (λ c a ys q. record { same-row = q .right; same-result = level-word (q .left) }) (levelled n L d g (nth ts 0) l i (nth-low ts 0 k) f h)
-asked n L c-infer d g ts l i k f h = leaves _ _ _ _ (λ c a ys q. record { same-row = q .right; same-result = term-word (q .left) }) (inferred n L d g (nth ts 0) l i (nth-low ts 0 k) f h)
-asked n L c-check d g ts l i k f h = leaves _ _ _ _ (λ c a ys q. record { same-row = q; same-result = no-word }) (checked n L d g (nth ts 0) (nth ts 1) l i (nth-low ts 0 k) (nth-low ts 1 k) f h)
-asked n L c-normalise d g ts l i k f h = leaves _ _ _ _ (λ c a ys q. record { same-row = q .right; same-result = term-word (q .left) }) (normalised n L d g (nth ts 0) (nth ts 1) l i (nth-low ts 0 k) (nth-low ts 1 k) f h)
-asked n L c-equal d g ts l i k f h = leaves _ _ _ _ (λ c a ys q. record { same-row = q; same-result = no-word }) (equalled n L d g (nth ts 0) (nth ts 1) (nth ts 2) l i (nth-low ts 0 k) (nth-low ts 1 k) (nth-low ts 2 k) f h)
+asked n L c-context d g ts l i k f h = leaves _ _ _ _ (λ c a w s h q. record { same-row = q; same-result = no-word }) (contexted n L d g l i f h)
+asked n L c-universe d g ts l i k f h = leaves _ _ _ _ (λ c a w s h q. record { same-row = q .right; same-result = level-word (q .left) }) (levelled n L d g (nth ts 0) l i (nth-low ts 0 k) f h)
+asked n L c-infer d g ts l i k f h = leaves _ _ _ _ (λ c a w s h q. record { same-row = q .right; same-result = low-word h (q .left) }) (inferred n L d g (nth ts 0) l i (nth-low ts 0 k) f h)
+asked n L c-check d g ts l i k f h = leaves _ _ _ _ (λ c a w s h q. record { same-row = q; same-result = no-word }) (checked n L d g (nth ts 0) (nth ts 1) l i (nth-low ts 0 k) (nth-low ts 1 k) f h)
+asked n L c-normalise d g ts l i k f h = leaves _ _ _ _ (λ c a w s h q. record { same-row = q .right; same-result = low-word h (q .left) }) (normalised n L d g (nth ts 0) (nth ts 1) l i (nth-low ts 0 k) (nth-low ts 1 k) f h)
+asked n L c-equal d g ts l i k f h = leaves _ _ _ _ (λ c a w s h q. record { same-row = q; same-result = no-word }) (equalled n L d g (nth ts 0) (nth ts 1) (nth ts 2) l i (nth-low ts 0 k) (nth-low ts 1 k) (nth-low ts 2 k) f h)
 
 -- deepest starts from 0
 pub afresh-holds : {o : Before} {w : Machine} {s : State} → Holds o w s → Holds o (afresh w) (with-deepest 0 s)

@@ -20,7 +20,7 @@ use Rattle.producer.specs.Machine.{same-row}
 use Rattle.walk.specs.Syntax.{Interval, I0, I1, Dim, Neg, Meet, Join, Term, Universe, Var, Nat, Zero, Pi, Lam, App, Path, PathLam, PathApp, Sigma, Pair, Fst, Snd, Context, Nil, Cons}
 use Rattle.walk.specs.Judgment.{Judgment, judgment?}
 use Rattle.walk.specs.State.{Row, Thing, term, interval, context, inference, Key, key, Memory, thing?, row-of, among, recall, of-interval, of-term, of-context}
-use Rattle.link.specs.Lists.{yes?, first, Nth, here, there, nth-below, Extends, same, more, extends-trans, Blocks, no-block, block, blocks-length, Read, read, written}
+use Rattle.link.specs.Lists.{yes?, found-of, first, Nth, here, there, nth-below, Extends, same, more, extends-trans, Blocks, no-block, block, blocks-length, Read, read, written}
 use Rattle.link.specs.Things.{Shown, a-memory, shown?, show, Cell, Low, is-thing, shows, cell-lift, low-lift, cell-nth, cell-same, cell-number, Plain, Seen, Held, Known, none-left, known, known-append, known-head, known-tail}
 use Rattle.link.specs.Tables.{Shape, s-universe, s-var, s-nat, s-zero, s-pi, s-lam, s-app, s-path, s-plam, s-papp, s-sigma, s-pair, s-fst, s-snd, s-i0, s-i1, s-dim, s-neg, s-meet, s-join, s-nil, s-cons, s-lift, s-same, s-words, s-plain, Look, l-universe, l-var, l-nat, l-zero, l-pi, l-lam, l-app, l-path, l-plam, l-papp, l-sigma, l-pair, l-fst, l-snd, l-i0, l-i1, l-dim, l-neg, l-meet, l-join, l-nil, l-cons, l-lift, l-same, l-words, l-plain, Spoken, j-lift, j-same, j-words, parts, shape-known}
 
@@ -309,10 +309,6 @@ row-test {k} {m} {a} {b} {c} {d} {e} {n} {j} {r} {xs} {rs} {ws} rest s ls h = le
   where
     at : {r : Row} {rs : List Row} {bs : List ℕ} → Line xs rs r bs → ifb (all-eq (getD bs 19 0) (getD bs 13 0) (getD bs 14 0) (getD bs 15 0) k a b c) (ifb (eqb (getD bs 16 0) d) (eqb (getD bs 17 0) e) false) false ≡ yes? (judgment? j (r .judgment))
     at (line s′) = spoken-test s s′
-
-abbrev pub found-of : Option ℕ → Found
-found-of (some n) = At n
-found-of none = Nothing
 
 pub rows-found : (j : Judgment) (t : ℕ → Bool) (rs : List Row) → ((n : ℕ) (r : Row) → Nth n r rs → t n ≡ yes? (judgment? j (r .judgment))) → last-of t (length rs) ≡ found-of (row-of j rs)
 unfolding last-of row-of

@@ -1,5 +1,6 @@
 -- The table, read back from the words: each row's rule, the rows that it cites, and its judgment, by quote through the cells;
--- none where the words hold no such thing. And what the words of a row, of an answer and of a cell are. Assumes nothing.
+-- none where the words hold no such thing. And what the words of a cell, a row and an answer are; Things says which cell has which
+-- number. Assumes nothing.
 use Prim.Native.Nat.{ℕ, suc, _+_, _*_, _<_}
 use mathlib.Core.Path.{_≡_}
 use mathlib.Core.List.{List, [], _∷_, _++_}
@@ -11,10 +12,11 @@ use Rattle.walk.specs.Syntax.{Interval, I0, I1, Dim, Neg, Meet, Join, Term, Uni
 use Rattle.walk.specs.Judgment.{Judgment, Argument, number, of-interval, of-quote, of-context, arguments, ctx, dshiftctx, lookup, lt, le, max, interval, ishift, isubst, shift, subst, dshift, dsubst, has, eq}
 use Rattle.walk.specs.Rule.{kind-of}
 use Rattle.walk.specs.Reader.{Kind, k-u, k-v, k-nat, k-zero, k-pi, k-lam, k-app, k-path, k-plam, k-papp, k-sigma, k-pair, k-fst, k-snd, IKind, k-0, k-1, k-dim, k-neg, k-meet, k-join, kinds, ikinds, Call}
-use Rattle.walk.specs.State.{State, Row, Thing, term, inference, key}
+use Rattle.walk.specs.State.{State, Row, Thing, term, inference, Key, key, recall}
 use Rattle.walk.specs.State as S
 use Rattle.walk.specs.Run.{Result, no-result, a-level, a-term, Answer}
-use Rattle.walk.specs.Demand.{At, judgment-of}
+use Rattle.walk.specs.Demand.{At, Row-at, judgment-of}
+use Rattle.link.specs.Things.{Shown, Counted, cell, quoted}
 
 infixl 20 _>>=_
 unfoldable pub _>>=_ : {A B : Type 0} → Option A → (A → Option B) → Option B
@@ -182,36 +184,87 @@ unfoldable pub table-at : (rows cells : ℕ) → List ℕ → List ℕ → Optio
 table-at ℕ.zero n R C = some []
 table-at (ℕ.suc i) n R C = row-at n R C i >>= λ r. table-at i n R C >>= λ rs. some (r ∷ rs)
 
--- what stands in a row's words, each as docs/FORMAT.md has it
+-- what stands in the words of a cell, of a row and of an answer, each as docs/FORMAT.md has it
 
--- an argument: a number as itself, else a cell in use with the quote
-abbrev pub Stands-for : ℕ → List ℕ → ℕ → Argument → Type 0
-Stands-for n C w (number m) = w ≡ m
-Stands-for n C w (of-interval r) = an-interval n C w ≡ some r
-Stands-for n C w (of-quote t) = a-quote n C w ≡ some t
-Stands-for n C w (of-context g) = a-context n C w ≡ some g
+abbrev pub four : ℕ → Option ℕ → Option ℕ → Option ℕ → List (Option ℕ)
+four kind a b c = some kind ∷ a ∷ b ∷ c ∷ []
 
--- over n cells, the words of row i are those of r; unused places are 0
-pub record Row-words (n : ℕ) (R C : List ℕ) (i : ℕ) (r : Row) : Type 0 where
+-- Words 0 to 3 of a thing, counted when `xs` were: its kind, its numbers, and the cells of its parts. Unused places are 0.
+unfoldable pub cell-words : List Thing → Thing → List (Option ℕ)
+cell-words xs (inference (key d g t)) = four 40 (some d) (cell xs (S.context g)) (cell xs (term t))
+-- written by tools/written.py: words of a cell
+cell-words xs (term (Universe n)) = four 1 (some n) (some 0) (some 0)
+cell-words xs (term (Var n)) = four 2 (some n) (some 0) (some 0)
+cell-words xs (term Nat) = four 3 (some 0) (some 0) (some 0)
+cell-words xs (term Zero) = four 4 (some 0) (some 0) (some 0)
+cell-words xs (term (Pi a b)) = four 5 (cell xs (term a)) (cell xs (term b)) (some 0)
+cell-words xs (term (Lam a b)) = four 6 (cell xs (term a)) (cell xs (term b)) (some 0)
+cell-words xs (term (App a b)) = four 7 (cell xs (term a)) (cell xs (term b)) (some 0)
+cell-words xs (term (Path a b c)) = four 8 (cell xs (term a)) (cell xs (term b)) (cell xs (term c))
+cell-words xs (term (PathLam a b)) = four 9 (cell xs (term a)) (cell xs (term b)) (some 0)
+cell-words xs (term (PathApp a b)) = four 10 (cell xs (term a)) (cell xs (S.interval b)) (some 0)
+cell-words xs (term (Sigma a b)) = four 11 (cell xs (term a)) (cell xs (term b)) (some 0)
+cell-words xs (term (Pair a b c)) = four 12 (cell xs (term a)) (cell xs (term b)) (cell xs (term c))
+cell-words xs (term (Fst a)) = four 13 (cell xs (term a)) (some 0) (some 0)
+cell-words xs (term (Snd a)) = four 14 (cell xs (term a)) (some 0) (some 0)
+cell-words xs (S.interval I0) = four 16 (some 0) (some 0) (some 0)
+cell-words xs (S.interval I1) = four 17 (some 0) (some 0) (some 0)
+cell-words xs (S.interval (Dim n)) = four 18 (some n) (some 0) (some 0)
+cell-words xs (S.interval (Neg a)) = four 19 (cell xs (S.interval a)) (some 0) (some 0)
+cell-words xs (S.interval (Meet a b)) = four 20 (cell xs (S.interval a)) (cell xs (S.interval b)) (some 0)
+cell-words xs (S.interval (Join a b)) = four 21 (cell xs (S.interval a)) (cell xs (S.interval b)) (some 0)
+cell-words xs (S.context Nil) = four 32 (some 0) (some 0) (some 0)
+cell-words xs (S.context (Cons a b)) = four 33 (cell xs (term a)) (cell xs (S.context b)) (some 0)
+
+-- end of words of a cell
+
+abbrev pub words-at : List ℕ → ℕ → List (Option ℕ)
+words-at C n = four (kind-word C n) (some (part 1 C n)) (some (part 2 C n)) (some (part 3 C n))
+
+-- the cells that are in use when xs are counted
+pub record Cells-words (xs : List Thing) (C : List ℕ) : Type 0 where
+  pub each : (x : Thing) (before : List Thing) → Counted x before xs → words-at C (length before) ≡ cell-words before x
+
+-- Words 4 and 5 of a remembered inference: the cell of its type, and its row, the newest that were stored.
+abbrev pub memory-words : List Thing → Option (Term × ℕ) → List (Option ℕ)
+memory-words xs (some (type, row)) = cell xs (term type) ∷ some row ∷ []
+memory-words xs none = []
+
+abbrev pub Memory-words : State → List ℕ → Type 0
+Memory-words s C = (k : Key) (before : List Thing) → Counted (inference k) before (s .cells) → (some (part 4 C (length before)) ∷ some (part 5 C (length before)) ∷ []) ≡ memory-words (s .cells) (recall k (s .memory))
+
+-- an argument of a row: a number as itself, else the lowest cell with the quote
+abbrev pub argument-word : List Thing → Argument → Option ℕ
+argument-word xs (number n) = some n
+argument-word xs (of-interval r) = quoted xs (Shown.an-interval r)
+argument-word xs (of-quote t) = quoted xs (Shown.a-quote t)
+argument-word xs (of-context g) = quoted xs (Shown.a-context g)
+
+-- the words of row i are those of r; unused places are 0
+pub record Row-words (xs : List Thing) (R : List ℕ) (i : ℕ) (r : Row) : Type 0 where
   pub rule : row-word 0 R i ≡ r .rule
   pub cited : row-word 1 R i ≡ length (r .refs)
   pub places : (k : ℕ) → k < 10 → row-word (2 + k) R i ≡ getD (r .refs) k 0
   pub count : row-word 12 R i ≡ length (arguments (r .judgment))
-  pub judgment : (k : ℕ) → k < 5 → Stands-for n C (row-word (13 + k) R i) (getD (arguments (r .judgment)) k (number 0))
+  pub judgment : (k : ℕ) → k < 5 → some (row-word (13 + k) R i) ≡ argument-word xs (getD (arguments (r .judgment)) k (number 0))
 
--- what stands in the words of an answer
+-- a state's table in words, and what they are read back as
+pub record Table-words (s : State) (R C : List ℕ) : Type 0 where
+  pub read : table-at (length (s .rows)) (length (s .cells)) R C ≡ some (s .rows)
+  pub each-row : (i : ℕ) (r : Row) → Row-at i r (s .rows) → Row-words (s .cells) R i r
+  pub cells : Cells-words (s .cells) C
 
--- the result: 0, a level, or a cell in use with the quote of a term
-abbrev pub Result-word : ℕ → List ℕ → ℕ → Result → Type 0
-Result-word n C w no-result = w ≡ 0
-Result-word n C w (a-level l) = w ≡ l
-Result-word n C w (a-term t) = a-quote n C w ≡ some (quote t)
+-- the result of an answer: 0, a level, or the lowest cell with the quote of a term
+abbrev pub result-word : List Thing → Result → Option ℕ
+result-word xs no-result = some 0
+result-word xs (a-level l) = some l
+result-word xs (a-term t) = quoted xs (Shown.a-quote (quote t))
 
--- over n cells, the four words of answer k are those of a
-pub record Answer-words (n : ℕ) (C A : List ℕ) (k : ℕ) (a : Answer) : Type 0 where
+-- the four words of answer k are those of a
+pub record Answer-words (xs : List Thing) (A : List ℕ) (k : ℕ) (a : Answer) : Type 0 where
   pub number : getD A (k * 4) 0 ≡ a .number
   pub row : getD A (k * 4 + 1) 0 ≡ a .row
-  pub result : Result-word n C (getD A (k * 4 + 2) 0) (a .result)
+  pub result : some (getD A (k * 4 + 2) 0) ≡ result-word xs (a .result)
   pub deepest : getD A (k * 4 + 3) 0 ≡ a .deepest
 
 -- answer k is a
@@ -224,80 +277,16 @@ pub data Call-at (c : Call) : ℕ → List Call → Type 0 where
   this-call : {calls : List Call} → Call-at c 0 (c ∷ calls)
   later-call : {k : ℕ} {b : Call} {calls : List Call} → Call-at c k calls → Call-at c (suc k) (b ∷ calls)
 
+-- a result by what its word is read as: 0, a level, or a cell in use with the quote of a term
+abbrev pub Named : ℕ → List ℕ → ℕ → Result → Type 0
+Named n C w no-result = w ≡ 0
+Named n C w (a-level l) = w ≡ l
+Named n C w (a-term t) = a-quote n C w ≡ some (quote t)
+
 -- over n cells, the row that the words of answer k name states the judgment of the call, with the result that they name
 pub record States (n : ℕ) (C A : List ℕ) (table : List Row) (k : ℕ) (c : Call) : Type 0 where
   pub result : Result
-  pub named : Result-word n C (getD A (k * 4 + 2) 0) result
+  pub named : Named n C (getD A (k * 4 + 2) 0) result
   pub judgment : Judgment
   pub judged : judgment-of c result ≡ some judgment
   pub states : At (getD A (k * 4 + 1) 0) judgment table
-
--- what stands in the words of a cell
-
--- Terms and contexts with a lam's and a plam's annotation, as the walk counts them.
-unfoldable pub term-by : (ℕ → Option Term) → (ℕ → Option Interval) → Kind → (a b c : ℕ) → Option Term
--- written by tools/written.py: a term
-term-by at iat k-u a b c = some (Universe a)
-term-by at iat k-v a b c = some (Var a)
-term-by at iat k-nat a b c = some Nat
-term-by at iat k-zero a b c = some Zero
-term-by at iat k-pi a b c = at a >>= λ x. at b >>= λ y. some (Pi x y)
-term-by at iat k-lam a b c = at a >>= λ x. at b >>= λ y. some (Lam x y)
-term-by at iat k-app a b c = at a >>= λ x. at b >>= λ y. some (App x y)
-term-by at iat k-path a b c = at a >>= λ x. at b >>= λ y. at c >>= λ z. some (Path x y z)
-term-by at iat k-plam a b c = at a >>= λ x. at b >>= λ y. some (PathLam x y)
-term-by at iat k-papp a b c = at a >>= λ x. iat b >>= λ y. some (PathApp x y)
-term-by at iat k-sigma a b c = at a >>= λ x. at b >>= λ y. some (Sigma x y)
-term-by at iat k-pair a b c = at a >>= λ x. at b >>= λ y. at c >>= λ z. some (Pair x y z)
-term-by at iat k-fst a b c = at a >>= λ x. some (Fst x)
-term-by at iat k-snd a b c = at a >>= λ x. some (Snd x)
-
--- end of a term
-
-unfoldable pub scope-by : (ℕ → Option Context) → (ℕ → Option Term) → CKind → (a b : ℕ) → Option Context
-scope-by at tat k-nil a b = some Nil
-scope-by at tat k-cons a b = tat a >>= λ x. at b >>= λ g. some (Cons x g)
-
-unfoldable pub term-at : ℕ → List ℕ → ℕ → Option Term
-term-at ℕ.zero C n = none
-term-at (ℕ.suc f) C n = getD kinds (kind-word C n) none >>= λ k. term-by (lower n (term-at f C)) (lower n (interval-at f C)) k (part 1 C n) (part 2 C n) (part 3 C n)
-
-unfoldable pub scope-at : ℕ → List ℕ → ℕ → Option Context
-scope-at ℕ.zero C n = none
-scope-at (ℕ.suc f) C n = getD ckinds (kind-word C n) none >>= λ k. scope-by (lower n (scope-at f C)) (lower n (term-at f C)) k (part 1 C n) (part 2 C n)
-
--- A remembered inference is 40 with its dimensions, and the cells of its context and its term, which are lower than its own.
-pub record Memory-cell (n : ℕ) (C : List ℕ) (i d : ℕ) (g : Context) (t : Term) : Type 0 where
-  pub kind : kind-word C i ≡ 40
-  pub dims : part 1 C i ≡ d
-  pub scope : lower i (scope-at n C) (part 2 C i) ≡ some g
-  pub of : lower i (term-at n C) (part 3 C i) ≡ some t
-
--- cell i of n holds what the walk counted
-abbrev pub Holds-thing : ℕ → List ℕ → ℕ → Thing → Type 0
-Holds-thing n C i (term t) = term-at n C i ≡ some t
-Holds-thing n C i (S.interval r) = interval-at n C i ≡ some r
-Holds-thing n C i (S.context g) = scope-at n C i ≡ some g
-Holds-thing n C i (inference (key d g t)) = Memory-cell n C i d g t
-
-pub data Among (x : Thing) : List Thing → Type 0 where
-  this-thing : {xs : List Thing} → Among x (x ∷ xs)
-  other-thing : {y : Thing} {xs : List Thing} → Among x xs → Among x (y ∷ xs)
-
--- Which cell has which number is open: a thing has a cell in use, and a cell in use a thing.
-pub record Cell-of (n : ℕ) (C : List ℕ) (x : Thing) : Type 0 where
-  pub at : ℕ
-  pub used : at < n
-  pub holds : Holds-thing n C at x
-
-pub record Thing-of (n : ℕ) (C : List ℕ) (xs : List Thing) (i : ℕ) : Type 0 where
-  pub thing : Thing
-  pub among : Among thing xs
-  pub holds : Holds-thing n C i thing
-
--- What some calls left is there, over words that more calls may have added to: their rows, which name cells that were in use then
--- and no later ones, and those cells.
-pub record Stays (s : State) (R C : List ℕ) : Type 0 where
-  pub rows : table-at (length (s .rows)) (length (s .cells)) R C ≡ some (s .rows)
-  pub each-cell : (x : Thing) → Among x (s .cells) → Cell-of (length (s .cells)) C x
-  pub each-thing : (i : ℕ) → i < length (s .cells) → Thing-of (length (s .cells)) C (s .cells) i

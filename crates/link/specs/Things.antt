@@ -1,15 +1,19 @@
 -- Things in cells: which cell a thing has, and which is the lowest with its quote. Assumes nothing.
 use Prim.Native.Nat.{ℕ}
-use mathlib.Core.Path.{_≡_, sym, ap, _∙_}
+use mathlib.Core.Path.{_≡_, refl, sym, ap, _∙_}
 use mathlib.Core.List.{List, [], _∷_, _++_}
-use mathlib.Core.Bool.{Bool, true}
+use mathlib.Core.Option.{Option, none, some}
+use mathlib.Core.Bool.{Bool, true, false}
 use native.Mathlib.Omega.{arith}
-use Rattle.ast.specs.declared.cells.Found.the-variants.{At}
+use lib.ListN.{length}
+use Rattle.ast.specs.Words.{ifb}
+use Rattle.ast.specs.Cells.{or-else}
+use Rattle.ast.specs.declared.cells.Found.the-variants.{At, Nothing}
 use Rattle.walk.specs.Syntax.{Interval, Quote, Quotes, quote, quotes, quote?, quotes?, interval?}
 use Rattle.walk.specs.State.{Thing, term, interval, context, inference, thing?}
-use Rattle.link.specs.Lists.{yes?, first, Nth, nth-unique, Extends, first-stays, first-passes}
+use Rattle.link.specs.Lists.{yes?, found-of, first, Nth, nth-unique, Extends, same, more, first-stays, first-passes}
 
--- what a cell shows: its quote
+-- what a cell shows: its quote; a remembered inference has none
 pub data Shown : Type 0 where
   a-quote : Quote → Shown
   an-interval : Interval → Shown
@@ -32,6 +36,29 @@ is-thing x y = yes? (thing? x y)
 unfoldable pub shows : Shown → Thing → Bool
 shows s y = yes? (shown? s (show y))
 
+-- A thing takes a cell when it is first counted, and has the number of those counted before it. Things have the newest first: x was
+-- counted when `before` were, and is cell `length before`.
+abbrev pub Counted : Thing → List Thing → List Thing → Type 0
+Counted x before xs = Extends (x ∷ before) xs
+
+-- the lowest cell that passes
+abbrev pub or-this : Option ℕ → Option ℕ → Option ℕ
+or-this (some n) m = some n
+or-this none m = m
+
+unfoldable pub lowest : (Thing → Bool) → List Thing → Option ℕ
+lowest p [] = none
+lowest p (x ∷ xs) = or-this (lowest p xs) (elim (p x) [ true ↦ some (length xs) | false ↦ none ])
+
+-- the cell of a thing, and the lowest with a quote
+abbrev pub cell : List Thing → Thing → Option ℕ
+cell xs x = lowest (is-thing x) xs
+
+abbrev pub quoted : List Thing → Shown → Option ℕ
+quoted xs s = lowest (shows s) xs
+
+-- The rest is for proofs: the same as facts, by the search that the program's model has.
+
 pub yes-true : {P : Type 0} (d : Dec P) → yes? d ≡ true → P
 yes-true (yes h) e = h
 yes-true (no h) e = let z : _≡_ {A = ℕ} 0 1 = cc in absurd (omega arith)
@@ -43,6 +70,60 @@ pub record Cell (n : ℕ) (x : Thing) (xs : List Thing) : Type 0 where
 -- cell n is the lowest that shows s
 pub record Low (n : ℕ) (s : Shown) (xs : List Thing) : Type 0 where
   pub found : first (shows s) xs ≡ At n
+
+module _ (p : Thing → Bool) where
+  or-else-this : (o q : Option ℕ) → found-of (or-this o q) ≡ or-else (found-of o) (found-of q)
+  or-else-this (some n) q = refl
+  or-else-this none q = refl
+
+  one-found : (b : Bool) (n : ℕ) → found-of (elim b as (λ _. Option ℕ) [ true ↦ some n | false ↦ none ]) ≡ ifb b (At n) Nothing
+  one-found true n = refl
+  one-found false n = refl
+
+  lowest-first : (xs : List Thing) → found-of (lowest p xs) ≡ first p xs
+  unfolding lowest first
+  lowest-first [] = refl
+  lowest-first (x ∷ xs) = or-else-this (lowest p xs) _ ∙ rw (lowest-first xs, one-found (p x) (length xs))
+
+  to-lowest : {n : ℕ} (xs : List Thing) → first p xs ≡ At n → some n ≡ lowest p xs
+  to-lowest {n} xs e = go (lowest p xs) (lowest-first xs ∙ e)
+    where
+      go : (o : Option ℕ) → found-of o ≡ At n → some n ≡ o
+      go (some m) q = let k : n ≡ m = cc in ap some k
+      go none q = let z : _≡_ {A = ℕ} 0 1 = cc in absurd (omega arith)
+
+  from-lowest : {n : ℕ} (xs : List Thing) → some n ≡ lowest p xs → first p xs ≡ At n
+  from-lowest xs e = sym (ap found-of e ∙ lowest-first xs)
+
+-- no thing has two cells
+pub record Distinct (xs : List Thing) : Type 0 where
+  pub once : (x : Thing) (before : List Thing) → Counted x before xs → first (is-thing x) before ≡ Nothing
+
+pub no-cell : {x : Thing} {before xs : List Thing} → Counted x before xs → xs ≡ [] → ⊥
+no-cell same q = let z : _≡_ {A = ℕ} 0 1 = cc in omega arith
+no-cell (more c) q = let z : _≡_ {A = ℕ} 0 1 = cc in omega arith
+
+pub none-distinct : Distinct []
+none-distinct = record { once = λ x before c. absurd (no-cell c refl) }
+
+once-more : {x y : Thing} {xs before : List Thing} → first (is-thing x) xs ≡ Nothing → Distinct xs → Counted y before (x ∷ xs) → first (is-thing y) before ≡ Nothing
+once-more f d same = f
+once-more f d (more c) = d .once _ _ c
+
+pub more-distinct : {x : Thing} {xs : List Thing} → first (is-thing x) xs ≡ Nothing → Distinct xs → Distinct (x ∷ xs)
+more-distinct f d = record { once = λ y before c. once-more f d c }
+
+pub cell-is : {n : ℕ} {x : Thing} {xs : List Thing} → Cell n x xs → some n ≡ cell xs x
+cell-is {x = x} {xs = xs} h = to-lowest (is-thing x) xs (h .found)
+
+pub is-cell : {n : ℕ} {x : Thing} {xs : List Thing} → some n ≡ cell xs x → Cell n x xs
+is-cell {x = x} {xs = xs} e = record { found = from-lowest (is-thing x) xs e }
+
+pub low-is : {n : ℕ} {s : Shown} {xs : List Thing} → Low n s xs → some n ≡ quoted xs s
+low-is {s = s} {xs = xs} h = to-lowest (shows s) xs (h .found)
+
+pub is-low : {n : ℕ} {s : Shown} {xs : List Thing} → some n ≡ quoted xs s → Low n s xs
+is-low {s = s} {xs = xs} e = record { found = from-lowest (shows s) xs e }
 
 pub cell-lift : {n : ℕ} {x : Thing} {xs ys : List Thing} → Extends xs ys → Cell n x xs → Cell n x ys
 cell-lift {x = x} e h = record { found = first-stays (is-thing x) e (h .found) }

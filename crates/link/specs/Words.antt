@@ -1,7 +1,7 @@
 -- A run over words, from bytes: what it answers and leaves is what the definition of the run says, and demand 3 holds of its
 -- table: `words`.
 use Prim.Native.Nat.{ℕ, suc, _+_, _*_, _≤_, _<_}
-use mathlib.Core.Path.{_≡_, refl, ap}
+use mathlib.Core.Path.{_≡_, refl, sym, ap}
 use mathlib.Core.List.{List, [], _∷_, _++_}
 use mathlib.Core.Option.{some}
 use mathlib.Core.Bool.{Bool, true, false, _||_}
@@ -30,8 +30,9 @@ use Rattle.order.specs.Theorem.{start-good, demand-3}
 use Rattle.link.specs.Lists.{Extends, same, more, blocks-length, stays}
 use Rattle.link.specs.Holds.{Before, Holds}
 use Rattle.link.specs.Asked.{Said, ask-sized, ask-all, start, four-words, written-over}
-use Rattle.link.specs.Table.{table-at, Row-words, Result-word, Answer-words, Answer-at, this-answer, later-answer, Among, this-thing, other-thing, Cell-of, Thing-of, Stays}
-use Rattle.link.specs.Back.{rows-stay, words-stay, table-back, row-words, answer-back, cell-of-thing, thing-of-cell}
+use Rattle.link.specs.Things.{no-cell, low-is}
+use Rattle.link.specs.Table.{table-at, Memory-words, Table-words, result-word, Answer-words, Answer-at, this-answer, later-answer}
+use Rattle.link.specs.Back.{words-stay, table-stays, table-told, memory-told}
 use Rattle.link.specs.Ends.{starts, past, past-cells}
 use Rattle.link.specs.Runs.{Results, no-word, level-word, term-word, All-say, none-say, says-on, asked-all, asked-sized, runs}
 
@@ -41,15 +42,12 @@ pub record Ran-words (rows cells answers : List ℕ) (ran : Ran) (w : Machine) (
   pub row-count : w .state .rows ≡ length (ran .last .rows)
   pub cell-count : w .state .cells ≡ length (ran .last .cells)
   -- each call's four words
-  pub each-answer : (k : ℕ) (a : Answer) → Answer-at a k (ran .answers) → Answer-words (w .state .cells) (w .cells) A k a
-  -- each row's words, and the table that they are read back as
-  pub each-row : (i : ℕ) (r : Row) → Row-at i r (ran .last .rows) → Row-words (w .state .cells) (w .rows) (w .cells) i r
-  pub table : table-at (w .state .rows) (w .state .cells) (w .rows) (w .cells) ≡ some (ran .last .rows)
-  -- each cell's words
-  pub each-cell : (x : Thing) → Among x (ran .last .cells) → Cell-of (w .state .cells) (w .cells) x
-  pub each-thing : (i : ℕ) → i < w .state .cells → Thing-of (w .state .cells) (w .cells) (ran .last .cells) i
+  pub each-answer : (k : ℕ) (a : Answer) → Answer-at a k (ran .answers) → Answer-words (ran .last .cells) A k a
+  -- each row's words and each cell's, and the table that they are read back as; what is remembered
+  pub table : Table-words (ran .last) (w .rows) (w .cells)
+  pub memory : Memory-words (ran .last) (w .cells)
   -- what the first calls left is there
-  pub stays : (first others : List Call) → ran .calls ≡ first ++ others → Stays (play-all first (R.start (ran .limit) (length rows) (length cells)) .1) (w .rows) (w .cells)
+  pub stays : (first others : List Call) → ran .calls ≡ first ++ others → Table-words (play-all first (R.start (ran .limit) (length rows) (length cells)) .1) (w .rows) (w .cells)
   -- the slices keep their lengths, and the words past those used stay
   pub rows-length : length (w .rows) ≡ length rows
   pub cells-length : length (w .cells) ≡ length cells
@@ -59,22 +57,21 @@ pub record Ran-words (rows cells answers : List ℕ) (ran : Ran) (w : Machine) (
   pub answers-stay : (i : ℕ) → length (ran .answers) * 4 ≤ i → getD A i 0 ≡ getD answers i 0
 
 -- four words more in front
-moved : {n k : ℕ} {C A : List ℕ} {a : Answer} (x y z u : ℕ) → Answer-words n C A k a → Answer-words n C (x ∷ y ∷ z ∷ u ∷ A) (suc k) a
+moved : {xs : List Thing} {k : ℕ} {A : List ℕ} {a : Answer} (x y z u : ℕ) → Answer-words xs A k a → Answer-words xs (x ∷ y ∷ z ∷ u ∷ A) (suc k) a
 moved {k = k} {A = A} x y z u h = record { number = rw (four (k * 4) (suc k * 4) (omega arith)) (h .number); row = rw (four (k * 4 + 1) (suc k * 4 + 1) (omega arith)) (h .row); result = rw (four (k * 4 + 2) (suc k * 4 + 2) (omega arith)) (h .result); deepest = rw (four (k * 4 + 3) (suc k * 4 + 3) (omega arith)) (h .deepest) }
   where
     four : (i j : ℕ) → j ≡ suc (suc (suc (suc i))) → getD (x ∷ y ∷ z ∷ u ∷ A) j 0 ≡ getD A i 0
     four i j e = rw e
 
-module _ {o : Before} {w : Machine} {s : State} (h : Holds o w s) where
-  result-word : {n : ℕ} {r : Result} → Results (s .cells) n r → Result-word (w .state .cells) (w .cells) n r
-  result-word no-word = refl
-  result-word (level-word e) = e
-  result-word (term-word c) = answer-back h c
+results-are : {xs : List Thing} {n : ℕ} {r : Result} → Results xs n r → some n ≡ result-word xs r
+results-are no-word = refl
+results-are (level-word e) = ap some e
+results-are (term-word l) = low-is l
 
-  each-answered : {saids : List Said} {answers : List Answer} (rest : List ℕ) (k : ℕ) (a : Answer) → All-say (s .cells) saids answers → Answer-at a k answers → Answer-words (w .state .cells) (w .cells) (four-words saids ++ rest) k a
-  unfolding four-words
-  each-answered rest k a (says-on x xs) this-answer = record { number = x .number; row = x .row; result = result-word (x .result); deepest = x .deepest }
-  each-answered rest k a (says-on x xs) (later-answer m) = moved _ _ _ _ (each-answered rest _ a xs m)
+each-answered : {xs : List Thing} {saids : List Said} {answers : List Answer} (rest : List ℕ) (k : ℕ) (a : Answer) → All-say xs saids answers → Answer-at a k answers → Answer-words xs (four-words saids ++ rest) k a
+unfolding four-words
+each-answered rest k a (says-on x xs) this-answer = record { number = x .number; row = x .row; result = results-are (x .result); deepest = x .deepest }
+each-answered rest k a (says-on x xs) (later-answer m) = moved _ _ _ _ (each-answered rest _ a xs m)
 
 said-words : {xs : List Thing} {saids : List Said} {answers : List Answer} → All-say xs saids answers → length (four-words saids) ≡ length answers * 4
 unfolding four-words
@@ -119,14 +116,8 @@ module _ (limit : ℕ) (rows cells : List ℕ) (first others : List Call) (most 
   first-order : Derivation-order (play-all first began .1 .rows)
   first-order = derivation-order (play-all-left first began (start-good limit (length rows) (length cells)) .good .order)
 
-  first-stays : Stays (play-all first began .1) (ask-all (first ++ others) (start limit rows cells) .1 .rows) (ask-all (first ++ others) (start limit rows cells) .1 .cells)
-  first-stays =
-      let h = runs limit rows cells (first ++ others) most .holds in
-      record {
-        rows = rows-stay (runs limit rows cells first most .holds) h more-rows more-cells first-order;
-        each-cell = λ x a. cell-of-thing h more-cells a;
-        each-thing = λ i l. thing-of-cell h more-cells i l;
-      }
+  first-stays : Table-words (play-all first began .1) (ask-all (first ++ others) (start limit rows cells) .1 .rows) (ask-all (first ++ others) (start limit rows cells) .1 .cells)
+  first-stays = table-stays (runs limit rows cells first most .holds) (runs limit rows cells (first ++ others) most .holds) more-rows more-cells first-order
 
   -- the words themselves, of the rows that the first calls made: all but the working words are what they were
   pub first-words : {r : Row} (i k : ℕ) → Row-at i r (play-all first began .1 .rows) → k < 18 → getD (ask-all (first ++ others) (start limit rows cells) .1 .rows) (i * 24 + k) 0 ≡ getD (ask-all first (start limit rows cells) .1 .rows) (i * 24 + k) 0
@@ -145,11 +136,9 @@ module _ (limit : ℕ) (rows cells answers : List ℕ) (calls : List Call) (most
       record {
         row-count = ap (λ (c : Counts). c .rows) (h .counts);
         cell-count = ap (λ (c : Counts). c .cells) (h .counts);
-        each-answer = λ k a. each-answered h _ k a (r .says);
-        each-row = λ i r k. row-words h k;
-        table = table-back h in-order;
-        each-cell = rw (h .counts) (λ x a. cell-of-thing h same a);
-        each-thing = rw (h .counts) (λ i l. thing-of-cell h same i l);
+        each-answer = λ k a. each-answered _ k a (r .says);
+        table = table-told h in-order;
+        memory = memory-told h;
         stays = λ first others e. rw e (first-stays limit rows cells first others most);
         rows-length =
             let e = blocks-length (h .words .rows-are) in
@@ -176,26 +165,25 @@ no-answer : {k : ℕ} {a : Answer} {answers : List Answer} → Answer-at a k ans
 no-answer this-answer q = let z : _≡_ {A = ℕ} 0 1 = cc in omega arith
 no-answer (later-answer h) q = let z : _≡_ {A = ℕ} 0 1 = cc in omega arith
 
-no-thing : {x : Thing} {xs : List Thing} → Among x xs → xs ≡ [] → ⊥
-no-thing this-thing q = let z : _≡_ {A = ℕ} 0 1 = cc in omega arith
-no-thing (other-thing a) q = let z : _≡_ {A = ℕ} 0 1 = cc in omega arith
+-- a state with no rows and no cells, in any words
+nothing-told : (s : State) (R C : List ℕ) → s .rows ≡ [] → s .cells ≡ [] → Table-words s R C
+unfolding table-at
+nothing-told s R C p q = record { read = rw p; each-row = λ i r k. absurd (no-row k p); cells = record { each = λ x before c. absurd (no-cell c q) } }
 
 -- where there are no calls there are no first ones
-none-first : (first others : List Call) (s : State) (R C : List ℕ) → s .rows ≡ [] → s .cells ≡ [] → [] ≡ first ++ others → Stays (play-all first s .1) R C
-unfolding play-all table-at
-none-first [] others s R C p q e = record { rows = rw p; each-cell = λ x a. absurd (no-thing a q); each-thing = λ i l. absurd (omega (arith, rw q at l)) }
+none-first : (first others : List Call) (s : State) (R C : List ℕ) → s .rows ≡ [] → s .cells ≡ [] → [] ≡ first ++ others → Table-words (play-all first s .1) R C
+unfolding play-all
+none-first [] others s R C p q e = nothing-told s R C p q
 none-first (call ∷ first) others s R C p q e = let z : _≡_ {A = ℕ} 0 1 = cc in absurd (omega arith)
 
 refused-words : (rows cells answers : List ℕ) (n place : ℕ) → Asked-words rows cells answers (refused-run n place)
-unfolding ask-all start R.start table-at four-words written-over
+unfolding ask-all start R.start four-words written-over
 refused-words rows cells answers n place = record {
   row-count = refl;
   cell-count = refl;
   each-answer = λ k a m. absurd (no-answer m refl);
-  each-row = λ i r k. absurd (no-row k refl);
-  table = refl;
-  each-cell = λ x a. absurd (no-thing a refl);
-  each-thing = λ i l. absurd (omega (arith, l));
+  table = nothing-told _ rows cells refl refl;
+  memory = λ k before c. absurd (no-cell c refl);
   stays = λ first others. none-first first others _ rows cells refl refl;
   rows-length = refl;
   cells-length = refl;

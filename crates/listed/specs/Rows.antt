@@ -2,22 +2,25 @@
 use Prim.Native.Nat.{ℕ, zero, suc, _+_, _<_, _≤_}
 use mathlib.Core.Path.{_≡_, refl, ap, sym, _∙_, subst}
 use mathlib.Core.List.{List, [], _∷_, _++_, append-assoc, append-nil}
+use mathlib.Core.Option.{some}
 use native.Mathlib.Omega.{arith}
 use native.Mathlib.Nat.{add-zero, zero-add}
 use lib.Dec.{lit≤}
 use lib.ListN.{length, getD}
 use Rattle.walk.specs.Judgment.{Judgment, Argument, number, of-interval, of-quote, of-context, arguments}
 use Rattle.walk.specs.Judgment as J
-use Rattle.walk.specs.State.{Row}
+use Rattle.walk.specs.State.{Row, Thing}
 use Rattle.walk.specs.Demand.{Row-at, newest, older, Cites, none-cited, _also_, Derivation-order}
 use Rattle.schemas.specs.Concludes.{concludes, few-premises}
-use Rattle.link.specs.Table.{interval-at, quote-at, context-at, Stands-for, Row-words}
+use Rattle.link.specs.Things.{is-low}
+use Rattle.link.specs.Table.{interval-at, quote-at, context-at, Cells-words, argument-word, Row-words}
+use Rattle.link.specs.Back.{interval-read, quote-read, context-read}
 use Rattle.writer.specs.Text.{Text, each}
 use Rattle.quotes.specs.Judgments.{row-word}
 use Rattle.lines.specs.Rows.{row-line}
 use Rattle.listed.specs.Said.{Argument-word, word-number, word-term, word-interval, word-context, Arguments-in, no-more, and-then, Refs-in, no-refs, and-ref, Row-in, row-text}
 use Rattle.listed.specs.Agrees.{row-said}
-use Rattle.listed.specs.Cells.{lowered, interval-cell, quote-cell, context-cell}
+use Rattle.listed.specs.Cells.{lowered, some-is, interval-cell, quote-cell, context-cell}
 use Rattle.listed.specs.Listed.{row-lines}
 
 pub next : (k m : ℕ) → k + suc m ≡ suc k + m
@@ -43,11 +46,12 @@ at-most-five (J.eq d g a b A) = lit≤ tt
 
 -- end of numbers of arguments
 
-stands : (n : ℕ) (C : List ℕ) (w : ℕ) (a : Argument) → Stands-for n C w a → Argument-word C w a
-stands n C w (number m) e = rw e word-number
-stands n C w (of-interval r) e = word-interval (interval-cell n C w r (lowered n (interval-at n C) w e .is))
-stands n C w (of-quote t) e = word-term (quote-cell n C w t (lowered n (quote-at n C) w e .is))
-stands n C w (of-context g) e = word-context (context-cell n C w g (lowered n (context-at n C) w e .is))
+module _ {xs : List Thing} {C : List ℕ} (cs : Cells-words xs C) where
+  stands : (w : ℕ) (a : Argument) → some w ≡ argument-word xs a → Argument-word C w a
+  stands w (number m) e = rw (some-is e) word-number
+  stands w (of-interval r) e = word-interval (interval-cell (length xs) C w r (lowered (length xs) (interval-at (length xs) C) w (interval-read cs (is-low e)) .is))
+  stands w (of-quote t) e = word-term (quote-cell (length xs) C w t (lowered (length xs) (quote-at (length xs) C) w (quote-read cs (is-low e)) .is))
+  stands w (of-context g) e = word-context (context-cell (length xs) C w g (lowered (length xs) (context-at (length xs) C) w (context-read cs (is-low e)) .is))
 
 -- a row that cites has as many premises
 
@@ -58,13 +62,13 @@ cited-many (at also c) = ap suc (cited-many c)
 few-refs : {rows : List Row} → Derivation-order rows → (i : ℕ) (r : Row) → Row-at i r rows → length (r .refs) ≤ 10
 few-refs o i r at = let f = o .follows i r at in rw (cited-many (f .cited)) (few-premises (f .follows))
 
-module _ (n : ℕ) (R C : List ℕ) (i : ℕ) where
+module _ {xs : List Thing} {C : List ℕ} (cs : Cells-words xs C) (R : List ℕ) (i : ℕ) where
   -- place k and those after it
-  arguments-in : (k : ℕ) (as′ : List Argument) → ((m : ℕ) → m < length as′ → Stands-for n C (row-word R i (13 + (k + m))) (getD as′ m (number 0))) → Arguments-in R C i k as′
+  arguments-in : (k : ℕ) (as′ : List Argument) → ((m : ℕ) → m < length as′ → some (row-word R i (13 + (k + m))) ≡ argument-word xs (getD as′ m (number 0))) → Arguments-in R C i k as′
   arguments-in k [] h = no-more
   arguments-in k (a ∷ as′) h =
-      and-then (stands n C _ a (subst (λ (p : ℕ). Stands-for n C (row-word R i (13 + p)) a) (add-zero k) (h 0 (omega arith))))
-      (arguments-in (suc k) as′ (λ m l. subst (λ (p : ℕ). Stands-for n C (row-word R i (13 + p)) (getD as′ m (number 0))) (next k m) (h (suc m) (omega arith))))
+      and-then (stands cs _ a (subst (λ (p : ℕ). some (row-word R i (13 + p)) ≡ argument-word xs a) (add-zero k) (h 0 (omega arith))))
+      (arguments-in (suc k) as′ (λ m l. subst (λ (p : ℕ). some (row-word R i (13 + p)) ≡ argument-word xs (getD as′ m (number 0))) (next k m) (h (suc m) (omega arith))))
 
   refs-in : (k : ℕ) (refs : List ℕ) → ((m : ℕ) → m < length refs → row-word R i (2 + (k + m)) ≡ getD refs m 0) → Refs-in R i k refs
   refs-in k [] h = no-refs
@@ -72,7 +76,7 @@ module _ (n : ℕ) (R C : List ℕ) (i : ℕ) where
       and-ref (subst (λ (p : ℕ). row-word R i (2 + p) ≡ x) (add-zero k) (h 0 (omega arith)))
       (refs-in (suc k) refs (λ m l. subst (λ (p : ℕ). row-word R i (2 + p) ≡ getD refs m 0) (next k m) (h (suc m) (omega arith))))
 
-  row-in : (r : Row) → length (r .refs) ≤ 10 → Row-words n R C i r → Row-in R C i r
+  row-in : (r : Row) → length (r .refs) ≤ 10 → Row-words xs R i r → Row-in R C i r
   row-in r few h =
       let five = at-most-five (r .judgment) in
       record {
@@ -83,7 +87,7 @@ module _ (n : ℕ) (R C : List ℕ) (i : ℕ) where
         arguments = arguments-in 0 (arguments (r .judgment)) (λ m l. rw zero-add (h .judgment m (omega arith)));
       }
 
-  row-is : {rows : List Row} → Derivation-order rows → (r : Row) → Row-at i r rows → Row-words n R C i r → row-line R C i ≡ row-text i r
+  row-is : {rows : List Row} → Derivation-order rows → (r : Row) → Row-at i r rows → Row-words xs R i r → row-line R C i ≡ row-text i r
   row-is o r at h = row-said r (row-in r (few-refs o i r at) h) (concludes (o .follows i r at .follows))
 
 -- all rows, the oldest first
@@ -101,5 +105,5 @@ lines f (r ∷ rows) h =
     ap (λ (t : Text). t ++ f (0 + length rows)) (lines f rows (λ i r at. h i r (older at))) ∙
     ap (λ (t : Text). row-lines rows ++ t) (ap f (zero-add (length rows)) ∙ h (length rows) r (newest refl))
 
-pub rows-said : (n : ℕ) (R C : List ℕ) (rows : List Row) → Derivation-order rows → ((i : ℕ) (r : Row) → Row-at i r rows → Row-words n R C i r) → each (row-line R C) 0 (length rows) ≡ row-lines rows
-rows-said n R C rows o h = lines (row-line R C) rows (λ i r at. row-is n R C i o r at (h i r at))
+pub rows-said : {xs : List Thing} {C : List ℕ} → Cells-words xs C → (R : List ℕ) (rows : List Row) → Derivation-order rows → ((i : ℕ) (r : Row) → Row-at i r rows → Row-words xs R i r) → each (row-line R C) 0 (length rows) ≡ row-lines rows
+rows-said {C = C} cs R rows o h = lines (row-line R C) rows (λ i r at. row-is cs R i o r at (h i r at))

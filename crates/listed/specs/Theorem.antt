@@ -63,7 +63,7 @@ module _ (bytes rows cells answers : List ℕ) where
 
   -- the table of which the contract promises demand 3 is the walk's
   table-is : {r : Ran} {rows′ cells′ answers′ : List ℕ} (h : Runs bytes rows cells answers r rows′ cells′ answers′) → h .derived .table ≡ walked bytes rows cells answers .last .rows
-  table-is h = some-is (sym (h .derived .read) ∙ h .table)
+  table-is h = some-is (sym (rw (h .numbers) at (h .derived .read)) ∙ h .table .read)
 
   in-order : {r : Ran} {rows′ cells′ answers′ : List ℕ} → Runs bytes rows cells answers r rows′ cells′ answers′ → Derivation-order (walked bytes rows cells answers .last .rows)
   in-order h = subst Derivation-order (table-is h) (h .derived .order)
@@ -71,9 +71,9 @@ module _ (bytes rows cells answers : List ℕ) where
   listing-of : (rows′ cells′ answers′ codes : List ℕ) → Runs bytes rows cells answers (numbers-of (walked bytes rows cells answers)) rows′ cells′ answers′ → Codes-of (walked bytes rows cells answers .calls) codes → listing (numbers-of (walked bytes rows cells answers)) codes answers′ rows′ cells′ ≡ listed (walked bytes rows cells answers)
   unfolding W.repeats
   listing-of rows′ cells′ answers′ codes h c =
-      let n = length (walked bytes rows cells answers .last .cells) in
-      let calls : Calls-in codes answers′ cells′ 0 (walked bytes rows cells answers .calls) (walked bytes rows cells answers .answers) = calls-in n codes answers′ cells′ 0 (demand-3 (length rows) (length cells) (length answers) bytes .stated) bare (λ k l. rw zero-add (c .each-code k l)) (λ k a at. rw zero-add (h .each-answer k a at)) in
-      by-parts (walked bytes rows cells answers) codes answers′ rows′ cells′ (calls-said n codes answers′ cells′ calls) (rows-said n rows′ cells′ _ (in-order h) (h .each-row)) (repeats-said calls)
+      let cs = h .table .cells in
+      let calls : Calls-in codes answers′ cells′ 0 (walked bytes rows cells answers .calls) (walked bytes rows cells answers .answers) = calls-in cs codes answers′ 0 (demand-3 (length rows) (length cells) (length answers) bytes .stated) bare (λ k l. rw zero-add (c .each-code k l)) (λ k a at. rw zero-add (h .each-answer k a at)) in
+      by-parts (walked bytes rows cells answers) codes answers′ rows′ cells′ (calls-said cs codes answers′ calls) (rows-said cs rows′ _ (in-order h) (h .table .each-row)) (repeats-said calls)
 
 -- For all bytes and slices, whatever the entry answers and leaves in the slices, if its contract holds.
 pub listing-is : (bytes rows cells answers : List ℕ) (r : Ran) (rows′ cells′ answers′ codes : List ℕ) → Runs bytes rows cells answers r rows′ cells′ answers′ → Codes-of (walked bytes rows cells answers .calls) codes → listing r codes answers′ rows′ cells′ ≡ listed (walked bytes rows cells answers)

@@ -3,7 +3,7 @@ use Prim.Native.Nat.{ℕ}
 use mathlib.Core.List.{List}
 use lib.Dec.{eqb}
 use Rattle.ast.specs.Words.{up}
-use Rattle.producer.specs.Machine.{W, _>>=_, give, when_then_else_, intern}
+use Rattle.producer.specs.Machine.{W, _>>=_, give, when_then_else_, lowest, intern}
 use Rattle.producer.specs.Callees.{prepared}
 use Rattle.producer.specs.Calls.{callees}
 use Rattle.walk.specs.Reader.{c-context, c-universe, c-infer, c-check, c-normalise}
@@ -20,6 +20,12 @@ row-first m = do
   (result, row) ← m
   give (row, result)
 
+-- a result that is a term, as the lowest cell with its quote
+unfoldable pub row-quoted : W (ℕ × ℕ) → W (ℕ × ℕ)
+row-quoted m = do
+  (result, row) ← m
+  lowest result λ low. give (row, low)
+
 -- equal: two sides are made, the type is still to come
 unfoldable pub with-sides : ℕ → List ℕ → (at d g a b : ℕ) → W (ℕ × ℕ)
 with-sides left bytes at d g a b = do
@@ -32,7 +38,7 @@ with-term left bytes at code d g t = do
   (u, next) ← built 33 bytes at
   when eqb code (code-number c-check) then row-alone (callees left .check d g t u)
       else
-      (when eqb code (code-number c-normalise) then row-first (callees left .normalize d g t u)
+      (when eqb code (code-number c-normalise) then row-quoted (callees left .normalize d g t u)
       else with-sides left bytes next d g t u)
 
 -- the function of a code, whose terms start at an offset
@@ -43,7 +49,7 @@ by-code left bytes at code d g =
       (t, next) ← built 33 bytes at
       when eqb code (code-number c-universe) then row-first (callees left .universe d g t)
           else
-          (when eqb code (code-number c-infer) then row-first (callees left .infer d g t)
+          (when eqb code (code-number c-infer) then row-quoted (callees left .infer d g t)
           else with-term left bytes next code d g t))
 
 -- the function is entered, then its arguments are made: the context first, whose types start at an offset

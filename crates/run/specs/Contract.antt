@@ -1,18 +1,18 @@
 -- What the entry promises of every run of bytes and all three slices: the run of the definition (`walked`), in words.
--- How words are read, and what the words of an answer, a row and a cell are, is in `link`'s Table; demand 3's terms are in
--- `walk`'s Demand. Nothing here speaks of how the entry works; `run-is-walked` of Same.Entry proves it.
+-- Which cell has which number is in `link`'s Things; how words are read, and what the words of an answer, a row and a cell are, in its
+-- Table; demand 3's terms are in `walk`'s Demand. Nothing here speaks of how the entry works; `run-is-walked` of Same.Entry proves it.
 use Prim.Native.Nat.{ℕ, _*_, _≤_, _<_}
 use mathlib.Core.Path.{_≡_}
 use mathlib.Core.List.{List, _++_}
 use mathlib.Core.Option.{some}
 use lib.ListN.{length, getD}
 use Rattle.walk.specs.Judgment.{Judgment}
-use Rattle.walk.specs.State.{Row, Thing}
+use Rattle.walk.specs.State.{Row}
 use Rattle.walk.specs.Reader.{Call}
 use Rattle.walk.specs.Run.{Answer, play-all, start}
 use Rattle.walk.specs.Run as W
-use Rattle.walk.specs.Demand.{At, Row-at, Derivation-order, Distinct, Derives, cut, Extends}
-use Rattle.link.specs.Table.{table-at, Answer-at, Answer-words, Call-at, States, Row-words, Among, Cell-of, Thing-of, Stays}
+use Rattle.walk.specs.Demand.{At, Derivation-order, Distinct, Derives, cut, Extends}
+use Rattle.link.specs.Table.{table-at, Memory-words, Table-words, Answer-at, Answer-words, Call-at, States}
 use Rattle.ran.specs.declared.Ran.{Ran}
 
 -- the definition's run of these bytes, in slices of these lengths
@@ -38,24 +38,20 @@ pub record Derived (bytes rows cells answers : List ℕ) (r : Ran) (rows′ cell
   pub cut-distinct : (n : ℕ) → Distinct (cut n table)
   pub cut-states : (n m : ℕ) (j : Judgment) → m ≤ n → At m j table → At m j (cut n table)
   pub cut-derives : (n m : ℕ) (j : Judgment) → At m j (cut n table) → Derives (cut n table) j
-  -- the table that the first calls leave stays, whatever the others are; of its rows' words too: an argument that is a cell is one
-  -- that the first calls left, and these are what they were
+  -- the table that the first calls leave stays, whatever the others are, and so does each of its words but the working ones
   pub grows : (first others : List Call) → walked bytes rows cells answers .calls ≡ first ++ others → Extends (play-all first (start (walked bytes rows cells answers .limit) (length rows) (length cells)) .1 .rows) table
-  pub stays : (first others : List Call) → walked bytes rows cells answers .calls ≡ first ++ others → Stays (play-all first (start (walked bytes rows cells answers .limit) (length rows) (length cells)) .1) rows′ cells′
+  pub stays : (first others : List Call) → walked bytes rows cells answers .calls ≡ first ++ others → Table-words (play-all first (start (walked bytes rows cells answers .limit) (length rows) (length cells)) .1) rows′ cells′
 
 -- r is what the entry answers; rows′, cells′ and answers′ are the slices after it
 pub record Runs (bytes rows cells answers : List ℕ) (r : Ran) (rows′ cells′ answers′ : List ℕ) : Type 0 where
   pub numbers : r ≡ numbers-of (walked bytes rows cells answers)
   -- one answer for each call, with its four words
   pub answer-count : length (walked bytes rows cells answers .answers) ≡ r .calls
-  pub each-answer : (k : ℕ) (a : Answer) → Answer-at a k (walked bytes rows cells answers .answers) → Answer-words (r .cells) cells′ answers′ k a
-  -- the table: as it is read back, and each of its words but the working ones, an argument that is a cell by its quote
-  pub table : table-at (r .rows) (r .cells) rows′ cells′ ≡ some (walked bytes rows cells answers .last .rows)
-  pub each-row : (i : ℕ) (row : Row) → Row-at i row (walked bytes rows cells answers .last .rows) → Row-words (r .cells) rows′ cells′ i row
-  -- the cells: each thing that the walk counted has one, and no other is in use
-  -- (by what it reads back as: of unused parts and of words 4 to 7, where an inference has its type and row, nothing is said)
-  pub each-cell : (x : Thing) → Among x (walked bytes rows cells answers .last .cells) → Cell-of (r .cells) cells′ x
-  pub each-thing : (i : ℕ) → i < r .cells → Thing-of (r .cells) cells′ (walked bytes rows cells answers .last .cells) i
+  pub each-answer : (k : ℕ) (a : Answer) → Answer-at a k (walked bytes rows cells answers .answers) → Answer-words (walked bytes rows cells answers .last .cells) answers′ k a
+  -- the table: words 0 to 17 of each row, words 0 to 3 of each cell, and what they are read back as; of a cell that holds a remembered
+  -- inference words 4 and 5 as well. The other words of rows and cells are working words: any word
+  pub table : Table-words (walked bytes rows cells answers .last) rows′ cells′
+  pub memory : Memory-words (walked bytes rows cells answers .last) cells′
   pub derived : Derived bytes rows cells answers r rows′ cells′ answers′
   -- what is used lies in the slices; words past it stay
   pub rows-fit : r .rows * 24 ≤ length rows′

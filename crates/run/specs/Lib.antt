@@ -4,5 +4,6 @@ pub mod Build
 pub mod Call
 pub mod Run
 pub mod Same
+pub mod Fixed
 pub mod Reads
 pub mod Rejects

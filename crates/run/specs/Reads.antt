@@ -3,36 +3,16 @@ use Prim.Native.Nat.{ℕ, suc, _<_, _≤_}
 use mathlib.Core.Path.{_≡_, refl, sym, ap, _∙_, subst}
 use mathlib.Core.List.{List, [], _∷_}
 use mathlib.Core.Option.{Option, none, some}
-use mathlib.Core.Bool.{Bool, true, false}
 use native.Mathlib.Decide.{ℕ-discrete}
 use native.Mathlib.Omega.{arith}
-use borrow.Author.Tests.{ltb-true}
-use lib.Dec.{ltb}
 use lib.ListN.{length, getD}
-use Rattle.walk.specs.Syntax.{Quotes}
-use Rattle.walk.specs.Judgment.{Judgment, has}
-use Rattle.walk.specs.State.{Row, Thing, thing?, among}
+use Rattle.walk.specs.Judgment.{Judgment}
+use Rattle.walk.specs.State.{Row}
 use Rattle.walk.specs.Demand.{At, here, there, Row-at, newest, older, All-below, no-number, below}
-use Rattle.link.specs.Table.{_>>=_, lower, quote-at, context-at, concluding, row-word, cited-at, row-at, table-at, a-quote, read-has, Among, this-thing, other-thing}
+use Rattle.link.specs.Table.{_>>=_, concluding, row-word, cited-at, row-at, table-at}
 
 pub nothing : {A : Type 0} {a : A} → none ≡ some a → ⊥
 nothing q = let z : _≡_ {A = ℕ} 0 1 = cc in omega arith
-
--- a number that is not lower
-pub high : {A : Type 0} (f : ℕ → Option A) (n i : ℕ) → n ≤ i → lower n f i ≡ none
-high {A} f n i l = over (ltb i n) refl
-  where
-    over : (b : Bool) → ltb i n ≡ b → _≡_ {A = Option A} (elim b as (λ _. Option A) [ true ↦ f i | false ↦ none ]) none
-    over true q = absurd (omega (arith, ltb-true i n q))
-    over false q = refl
-
--- a number that is lower
-pub low : {A : Type 0} (f : ℕ → Option A) (n i : ℕ) {a : A} → lower n f i ≡ some a → f i ≡ some a
-low {A} f n i {a} = under (ltb i n)
-  where
-    under : (b : Bool) → elim b as (λ _. Option A) [ true ↦ f i | false ↦ none ] ≡ some a → f i ≡ some a
-    under true q = q
-    under false q = absurd (nothing q)
 
 -- row i of a table that is read
 pub record Row-read (n : ℕ) (R C : List ℕ) (i : ℕ) (table : List Row) : Type 0 where
@@ -101,26 +81,3 @@ row-states (older h) = there (row-states h)
 
 pub states-same : {n : ℕ} {i j : Judgment} {rs : List Row} → At n i rs → At n j rs → i ≡ j
 states-same h k = let (r, (p, a)) = states-row h in let (r′, (q, b)) = states-row k in p ∙ ap (λ (x : Row). x .judgment) (row-same a b) ∙ sym q
-
--- the term of a typing is a cell in use
-pub named : (n : ℕ) (C : List ℕ) (a b c d e : ℕ) (j : Judgment) → read-has n C a b c d e ≡ some j → n ≤ c → ⊥
-unfolding read-has _>>=_
-named n C a b c d e j q l = go (lower n (context-at n C) b) (rw (high (quote-at n C) n c l) at q)
-  where
-    go : (o : Option Quotes) → (o >>= λ g. none >>= λ t. a-quote n C d >>= λ y. some (has a g t y)) ≡ some j → ⊥
-    go none q = nothing q
-    go (some g) q = nothing q
-
--- a thing that is not counted
-pub lacks : (x : Thing) (xs : List Thing) → among x xs ≡ false → Among x xs → ⊥
-unfolding among
-lacks x (y ∷ ys) e this-thing = go (thing? x x) e
-  where
-    go : (h : Dec (x ≡ x)) → elim h as (λ _. Bool) [ yes _ ↦ true | no _ ↦ among x ys ] ≡ false → ⊥
-    go (yes h) q = let z : _≡_ {A = ℕ} 0 1 = cc in omega arith
-    go (no h) q = h refl
-lacks x (y ∷ ys) e (other-thing a) = go (thing? x y) e (λ q. lacks x ys q a)
-  where
-    go : (h : Dec (x ≡ y)) → elim h as (λ _. Bool) [ yes _ ↦ true | no _ ↦ among x ys ] ≡ false → (among x ys ≡ false → ⊥) → ⊥
-    go (yes h) q ih = let z : _≡_ {A = ℕ} 0 1 = cc in omega arith
-    go (no h) q ih = ih q

@@ -3,25 +3,29 @@
 use Prim.Native.Nat.{ℕ, suc, _+_, _*_, _<_, _≤_}
 use mathlib.Core.Path.{_≡_, refl, sym, ap, _∙_, subst}
 use mathlib.Core.List.{List, [], _∷_}
-use mathlib.Core.Option.{Option, none, some}
-use mathlib.Core.Bool.{false}
-use native.Mathlib.Decide.{decLt}
+use mathlib.Core.Option.{some}
 use native.Mathlib.Omega.{arith}
 use lib.Dec.{lit<, lit≤}
 use lib.ListN.{length, getD, replicate}
-use Rattle.walk.specs.Syntax.{Term, Universe, Var, Nat, Zero, Pi, Lam, nat, zero, v, pi, lam, nil, cons, quote}
+use Rattle.walk.specs.Syntax.{Universe, Var, Nat, Zero, Pi, Lam, Nil, Quote, nat, zero, u, v, pi, lam, nil, cons, quote}
 use Rattle.walk.specs.Judgment.{Judgment, has}
 use Rattle.walk.specs.Rule as R
-use Rattle.walk.specs.Rule.{kind-of}
-use Rattle.walk.specs.State.{State, Row, Thing, term, interval, context, inference, key, among}
+use Rattle.walk.specs.State.{Row, term, context, inference, key, recall}
 use Rattle.walk.specs.Reader.{c-infer, c-check, Call}
-use Rattle.walk.specs.Run.{Answer, Result, no-result, a-level, a-term, scope-of, play-all, start}
+use Rattle.walk.specs.Run.{Answer, Result, no-result, a-level, a-term, scope-of}
 use Rattle.walk.specs.Demand.{At, Row-at, newest, older, All-below, of-none, of-answer, judgment-of}
 use Rattle.walk.specs.Opened.{opened}
-use Rattle.link.specs.Table.{_>>=_, kind-word, part, lower, interval-at, term-by, term-at, scope-at, Holds-thing, cited-at, concluding, read-has, row-at, table-at, Answer-at, this-answer, later-answer, this-call, later-call, Among, Stays}
+use Rattle.link.specs.Lists.{same, more}
+use Rattle.link.specs.Things.{a-quote, shown?, is-thing, shows, Counted, lowest, cell, quoted}
+use Rattle.link.specs.Table.{kind-word, part, row-word, cited-at, row-at, table-at, cell-words, memory-words, Answer-at, this-answer, later-answer, this-call, later-call}
 use Rattle.ran.specs.declared.Ran.{Ran}
 use Rattle.run.specs.Contract.{walked, numbers-of, Derived, Runs}
-use Rattle.run.specs.Reads.{nothing, high, low, Row-read, table-read, row-parts, all-below, row-same, row-states, states-same, named, lacks}
+use Rattle.run.specs.Reads.{nothing, Row-read, table-read, row-parts, all-below, row-states, states-same}
+
+-- what computes the numbers of cells
+unfoldable numbers : Unit {0}
+unfolding shown? is-thing shows lowest
+numbers = tt
 
 -- room for 32 rows, 64 cells and 4 answers
 abbrev rows : List ℕ
@@ -102,15 +106,17 @@ annotated-first : Answer-at (said 21 no-result 11) 0 (walked annotated rows cell
 unfolding opened
 annotated-first = this-answer
 
--- infer lam(nat, zero), then check lam(u 0, zero), which has the same quote, at nat: refused
-abbrev again : List ℕ
-again = 100 ∷ 0 ∷ 2 ∷ 0 ∷ 0 ∷ 6 ∷ 3 ∷ 4 ∷ 3 ∷ 0 ∷ 0 ∷ 6 ∷ 1 ∷ 0 ∷ 4 ∷ 3 ∷ []
+-- normalise lam(nat, zero) at nat → nat, then lam(u 0, zero), which has the same quote, at u 0 → nat: each is its own result
+abbrev normals : List ℕ
+normals = 100 ∷ 0 ∷ 4 ∷ 0 ∷ 0 ∷ 6 ∷ 3 ∷ 4 ∷ 5 ∷ 3 ∷ 3 ∷ 4 ∷ 0 ∷ 0 ∷ 6 ∷ 1 ∷ 0 ∷ 4 ∷ 5 ∷ 1 ∷ 0 ∷ 3 ∷ []
 
-abbrev again-first : Call
-again-first = record { code = c-infer; dims = 0; types = []; terms = Lam Nat Zero ∷ [] }
+normals-second : Answer-at (said 12 (a-term (Lam (Universe 0) Zero)) 7) 1 (walked normals rows cells answers .answers)
+unfolding opened
+normals-second = later-answer this-answer
 
-abbrev again-second : Call
-again-second = record { code = c-check; dims = 0; types = []; terms = Lam (Universe 0) Zero ∷ Nat ∷ [] }
+-- infer v 0 in context nat
+abbrev scoped : List ℕ
+scoped = 100 ∷ 0 ∷ 2 ∷ 0 ∷ 1 ∷ 3 ∷ 2 ∷ 0 ∷ []
 
 -- outcomes that break demand 3: each is refused by the field that is named, whatever the other clauses say
 
@@ -161,75 +167,58 @@ second-says no-result j e q = nothing e
 second-says (a-level l) j e q = nothing e
 second-says (a-term t) j e q = let p : has 0 (cons nat nil) (v 0) (quote t) ≡ has 0 nil zero nat = cc in let z : _≡_ {A = ℕ} 0 1 = cc in omega arith
 
--- the state that the first call of `again` leaves
-abbrev again-left : State
-again-left = play-all (again-first ∷ []) (start 100 768 512) .1
+-- numbers of cells: things that were counted, and the lowest with a quote
 
-again-rows : length (again-left .rows) ≡ 6
+one-nil : Counted (context Nil) [] (walked one rows cells answers .last .cells)
 unfolding opened
-again-rows = refl
+one-nil = more (more (more same))
 
-again-cells : length (again-left .cells) ≡ 11
+one-zero : Counted (term Zero) (context Nil ∷ []) (walked one rows cells answers .last .cells)
 unfolding opened
-again-cells = refl
+one-zero = more (more same)
 
--- its last row, which states the call's judgment
-abbrev again-row : Row
-again-row = record { rule = R.type·lam; refs = 1 ∷ 3 ∷ 4 ∷ []; judgment = has 0 nil (lam zero) (pi nat nat) }
-
-again-last : Row-at 5 again-row (again-left .rows)
+one-memory : Counted (inference (key 0 Nil Zero)) (term Nat ∷ term Zero ∷ context Nil ∷ []) (walked one rows cells answers .last .cells)
 unfolding opened
-again-last = newest refl
+one-memory = same
 
--- lam(u 0, zero) is no cell of it
-again-lacks : among (term (Lam (Universe 0) Zero)) (again-left .cells) ≡ false
+-- what is remembered of zero: its type is cell 2, its row is 1
+one-remembers : memory-words (walked one rows cells answers .last .cells) (recall (key 0 Nil Zero) (walked one rows cells answers .last .memory)) ≡ some 2 ∷ some 1 ∷ []
+unfolding opened numbers
+one-remembers = refl
+
+-- the context of `scoped`: its rest, and then its last type
+scoped-rest : Counted (context Nil) [] (walked scoped rows cells answers .last .cells)
 unfolding opened
-again-lacks = refl
+scoped-rest = more (more (more (more (more (more same)))))
 
--- cell c is lam(u 0, zero), by its words and those of its parts
-record Second-lam (C : List ℕ) (c : ℕ) : Type 0 where
-  kind : kind-word C c ≡ 6
-  annotation : kind-word C (part 1 C c) ≡ 1
-  level : part 1 C (part 1 C c) ≡ 0
-  body : kind-word C (part 2 C c) ≡ 4
+-- cells 3 and 11 of `lams` are lam(nat, zero) and lam(u 0, zero)
+lams-lowest : quoted (walked lams rows cells answers .last .cells) (a-quote (lam zero)) ≡ some 3
+unfolding opened numbers
+lams-lowest = refl
 
-second-lam : (f : ℕ) (C : List ℕ) (c : ℕ) (t : Term) → Second-lam C c → term-at (suc (suc f)) C c ≡ some t → t ≡ Lam (Universe 0) Zero
-unfolding term-at term-by _>>=_
-second-lam f C c t h e = go (lower c (term-at (suc f) C) (part 1 C c)) (lower c (term-at (suc f) C) (part 2 C c)) (λ x q. let p = rw (h .annotation, h .level) at (low (term-at (suc f) C) c (part 1 C c) q) in cc) (λ y q. let p = rw (h .body) at (low (term-at (suc f) C) c (part 2 C c) q) in cc) (rw (h .kind) at e)
-  where
-    go : (o p : Option Term) → ((x : Term) → o ≡ some x → x ≡ Universe 0) → ((y : Term) → p ≡ some y → y ≡ Zero) → (o >>= λ x. p >>= λ y. some (Lam x y)) ≡ some t → t ≡ Lam (Universe 0) Zero
-    go none p f g q = absurd (nothing q)
-    go (some x) none f g q = absurd (nothing q)
-    go (some x) (some y) f g q = let a = f x refl in let b = g y refl in let k : Lam x y ≡ t = cc in sym k ∙ rw (a, b)
+lams-own : some 11 ≡ cell (walked lams rows cells answers .last .cells) (term (Lam (Universe 0) Zero))
+unfolding opened numbers
+lams-own = refl
 
-type-lam-reads : concluding R.type·lam ≡ read-has
-unfolding kind-of
-type-lam-reads = refl
+abbrev lams-row : (refs : List ℕ) → Quote → Row
+lams-row refs domain = record { rule = R.type·lam; refs = refs; judgment = has 0 nil (lam zero) (pi domain nat) }
 
--- an older row names that cell in place of lam(nat, zero), whose quote is the same: `stays`
-module _ {R C : List ℕ} (s : Stays again-left R C) where
-  in-use : getD R 135 0 < 11
-  in-use = go (decLt (getD R 135 0) 11)
-    where
-      go : Dec (getD R 135 0 < 11) → getD R 135 0 < 11
-      go (yes l) = l
-      go (no l) =
-          let t = table-read 6 11 R C (again-left .rows) (rw (again-rows, again-cells) at (s .rows)) in
-          let x = t .each 5 (lit< tt) in
-          let p = row-parts 11 R C 5 again-row (x .read ∙ ap some (row-same (x .at) again-last)) in
-          absurd (named 11 C _ _ _ _ _ _ (rw type-lam-reads at (p .judgment)) (omega arith))
+lams-older : Row-at 5 (lams-row (1 ∷ 3 ∷ 4 ∷ []) nat) (walked lams rows cells answers .last .rows)
+unfolding opened
+lams-older = older (older (older (older (older (newest refl)))))
 
-  renamed : Second-lam C (getD R 135 0) → ⊥
-  unfolding interval-at scope-at _>>=_
-  renamed h =
-      let x = s .each-thing (getD R 135 0) (rw again-cells in-use) in
-      go (x .thing) (x .among) (subst (λ (m : ℕ). Holds-thing m C (getD R 135 0) (x .thing)) again-cells (x .holds))
-    where
-      go : (x : Thing) → Among x (again-left .cells) → Holds-thing 11 C (getD R 135 0) x → ⊥
-      go (term t) a q = lacks (term t) (again-left .cells) (rw (second-lam 9 C (getD R 135 0) t h q) again-lacks) a
-      go (interval t) a q = nothing (rw (h .kind) at q)
-      go (context g) a q = nothing (rw (h .kind) at q)
-      go (inference (key d g t)) a q = let z : _≡_ {A = ℕ} 6 40 = sym (h .kind) ∙ q .kind in omega arith
+lams-newer : Row-at 10 (lams-row (6 ∷ 8 ∷ 9 ∷ []) (u 0)) (walked lams rows cells answers .last .rows)
+unfolding opened
+lams-newer = newest refl
+
+-- and of `normals`
+normals-lowest : quoted (walked normals rows cells answers .last .cells) (a-quote (lam zero)) ≡ some 3
+unfolding opened numbers
+normals-lowest = refl
+
+normals-own : some 11 ≡ cell (walked normals rows cells answers .last .cells) (term (Lam (Universe 0) Zero))
+unfolding opened numbers
+normals-own = refl
 
 -- outcomes that no program with the contract has
 
@@ -256,15 +245,16 @@ module _ {r : Ran} {rows′ cells′ answers′ : List ℕ} where
 
   no-rows : Runs one rows cells answers r rows′ cells′ answers′ → rows′ ≡ rows → ⊥
   unfolding opened
-  no-rows h e = let q : _≡_ {A = ℕ} 7 R.ctx·nil = ap (λ (l : List ℕ). getD l 0 0) (sym e) ∙ h .each-row 0 _ (older (newest refl)) .rule in omega arith
+  no-rows h e = let q : _≡_ {A = ℕ} 7 R.ctx·nil = ap (λ (l : List ℕ). getD l 0 0) (sym e) ∙ h .table .each-row 0 _ (older (newest refl)) .rule in omega arith
 
   -- an invented number of rows
   row-count : Runs one rows cells answers r rows′ cells′ answers′ → (n : ℕ) → r .rows ≡ n → (n ≡ 2 → ⊥) → ⊥
   row-count h n e z = z (sym e ∙ ap (λ (x : Ran). x .rows) (h .numbers ∙ one-numbers))
 
   -- an empty table; rows that follow, and have nothing to do with the call
-  other-table : Runs one rows cells answers r rows′ cells′ answers′ → (table : List Row) → table-at (r .rows) (r .cells) rows′ cells′ ≡ some table → (table ≡ walked one rows cells answers .last .rows → ⊥) → ⊥
-  other-table h table e z = let q : some table ≡ some (walked one rows cells answers .last .rows) = sym e ∙ h .table in let p : table ≡ walked one rows cells answers .last .rows = cc in z p
+  other-table : Runs one rows cells answers r rows′ cells′ answers′ → (table : List Row) → table-at 2 4 rows′ cells′ ≡ some table → (table ≡ walked one rows cells answers .last .rows → ⊥) → ⊥
+  unfolding opened
+  other-table h table e z = let q : some table ≡ some (walked one rows cells answers .last .rows) = sym e ∙ h .table .read in let p : table ≡ walked one rows cells answers .last .rows = cc in z p
 
   -- a store past the used words
   past-rows : Runs one rows cells answers r rows′ cells′ answers′ → getD rows′ 48 0 ≡ 0 → ⊥
@@ -276,19 +266,43 @@ module _ {r : Ran} {rows′ cells′ answers′ : List ℕ} where
   past-answers : Runs one rows cells answers r rows′ cells′ answers′ → getD answers′ 4 0 ≡ 0 → ⊥
   past-answers h e = let n : r .calls ≡ 1 = ap (λ (x : Ran). x .calls) (h .numbers ∙ one-numbers) in let q : _≡_ {A = ℕ} 0 7 = sym e ∙ h .answers-stay 4 (rw n (lit≤ tt)) in omega arith
 
-  -- a remembered inference whose term is no cell in use
-  unused-cell : Runs one rows cells answers r rows′ cells′ answers′ → (i : ℕ) → i < 4 → getD cells′ (i * 8) 0 ≡ 40 → 4 ≤ getD cells′ (i * 8 + 3) 0 → ⊥
-  unfolding term-at interval-at scope-at _>>=_
-  unused-cell h i l e k =
-      let n : r .cells ≡ 4 = ap (λ (x : Ran). x .cells) (h .numbers ∙ one-numbers) in
-      let x = h .each-thing i (rw n l) in
-      go (x .thing) (subst (λ (m : ℕ). Holds-thing m cells′ i (x .thing)) n (x .holds))
-    where
-      go : (x : Thing) → Holds-thing 4 cells′ i x → ⊥
-      go (term t) q = nothing (rw e at q)
-      go (interval t) q = nothing (rw e at q)
-      go (context g) q = nothing (rw e at q)
-      go (inference (key d g t)) q = nothing (sym (high (term-at 4 cells′) i _ (omega arith)) ∙ q .of)
+  -- two cells exchanged: nat before zero
+  exchanged : Runs one rows cells answers r rows′ cells′ answers′ → kind-word cells′ 1 ≡ 3 → kind-word cells′ 2 ≡ 4 → ⊥
+  unfolding cell-words
+  exchanged h e f = let w = h .table .cells .each _ _ one-zero in let q : _≡_ {A = ℕ} 3 4 = cc in omega arith
+
+  -- an unused place of a cell that is not 0
+  unused-place : Runs one rows cells answers r rows′ cells′ answers′ → (n : ℕ) → part 3 cells′ 0 ≡ suc n → ⊥
+  unfolding cell-words
+  unused-place h n e = let w = h .table .cells .each _ _ one-nil in let q : suc n ≡ 0 = cc in omega arith
+
+  -- a remembered inference of another term; with another type, or another row
+  other-term : Runs one rows cells answers r rows′ cells′ answers′ → (n : ℕ) → part 3 cells′ 3 ≡ n → (n ≡ 1 → ⊥) → ⊥
+  unfolding cell-words opened numbers
+  other-term h n e z = let w = h .table .cells .each _ _ one-memory in let q : n ≡ 1 = cc in z q
+
+  other-memory : Runs one rows cells answers r rows′ cells′ answers′ → (type row : ℕ) → part 4 cells′ 3 ≡ type → part 5 cells′ 3 ≡ row → ((type ≡ 2) × (row ≡ 1) → ⊥) → ⊥
+  other-memory h type row e f z =
+      let w = h .memory (key 0 Nil Zero) _ one-memory ∙ one-remembers in
+      let p : type ≡ 2 = cc in
+      let q : row ≡ 1 = cc in
+      z (p, q)
+
+  -- a context's last type before its rest: nat is cell 0
+  last-first : Runs scoped rows cells answers r rows′ cells′ answers′ → kind-word cells′ 0 ≡ 3 → ⊥
+  unfolding cell-words
+  last-first h e = let w = h .table .cells .each _ _ scoped-rest in let q : _≡_ {A = ℕ} 3 32 = cc in omega arith
+
+  -- a row names a higher cell with the same quote: a new row that of its own term, an older one a cell that came later
+  higher-cell : Runs lams rows cells answers r rows′ cells′ answers′ → row-word 15 rows′ 10 ≡ 11 → ⊥
+  higher-cell h e = let w = h .table .each-row 10 _ lams-newer .judgment 2 (lit< tt) ∙ lams-lowest in let q : _≡_ {A = ℕ} 11 3 = cc in omega arith
+
+  later-cell : Runs lams rows cells answers r rows′ cells′ answers′ → row-word 15 rows′ 5 ≡ 11 → ⊥
+  later-cell h e = let w = h .table .each-row 5 _ lams-older .judgment 2 (lit< tt) ∙ lams-lowest in let q : _≡_ {A = ℕ} 11 3 = cc in omega arith
+
+  -- a result names its own cell, and not the lowest with its quote
+  own-cell : Runs normals rows cells answers r rows′ cells′ answers′ → getD answers′ 6 0 ≡ 11 → ⊥
+  own-cell h e = let w = h .each-answer 1 _ normals-second .result ∙ normals-lowest in let q : _≡_ {A = ℕ} 11 3 = cc in omega arith
 
   -- the first call's row repeated for the second
   first-row : Runs two rows cells answers r rows′ cells′ answers′ → getD answers′ 5 0 ≡ 1 → ⊥
@@ -302,11 +316,6 @@ module _ {r : Ran} {rows′ cells′ answers′ : List ℕ} where
       let b = d .stated 1 call-1 (rw two-read (later-call this-call)) f in
       let q = states-same (subst (λ (n : ℕ). At n (b .judgment) (d .table)) g (b .states)) (a .states) in
       second-says (b .result) (b .judgment) (b .judged) (q ∙ first-says (a .result) (a .judgment) (a .judged))
-
-  -- an older row's argument becomes a cell that came later, with the same quote
-  other-lam : Runs again rows cells answers r rows′ cells′ answers′ → Second-lam cells′ (getD rows′ 135 0) → ⊥
-  unfolding opened
-  other-lam h = renamed (h .derived .stays (again-first ∷ []) (again-second ∷ []) refl)
 
   -- rows dropped when a call is refused
   dropped : Runs unbound rows cells answers r rows′ cells′ answers′ → r .rows ≡ 0 → ⊥

@@ -7,6 +7,7 @@ use crate::build::DEPTH;
 use crate::build::build;
 use crate::build::scope;
 use crate::build::wide;
+use ast::cells::quote;
 use ast::kinds::NIL;
 use ast::words::succ;
 use producer::State;
@@ -15,7 +16,8 @@ use producer::answers::Two;
 use syntax::CallHead;
 use syntax::calls;
 
-// The row and the result of the call at `at`, which has this head, or its refusal.
+// The row and the result of the call at `at`, which has this head, or its refusal. A result that is a term is the lowest cell with
+// its quote.
 pub fn call(
     state: State,
     bytes: &[u8],
@@ -100,7 +102,7 @@ pub fn enter(
         }
         calls::INFER => {
             return match s1.infer(left, rows, cells, d, g, t) {
-                Two::Pair(s, ty, row) => Two::Pair(s, row, ty),
+                Two::Pair(s, ty, row) => Two::Pair(s, row, quote(cells, ty)),
                 Two::Refused(s, e) => Two::Refused(s, e),
             };
         }
@@ -137,7 +139,7 @@ pub fn enter_two(
         }
         calls::NORMALISE => {
             return match s1.normalize(left, rows, cells, d, g, t, u) {
-                Two::Pair(s, normal, row) => Two::Pair(s, row, normal),
+                Two::Pair(s, normal, row) => Two::Pair(s, row, quote(cells, normal)),
                 Two::Refused(s, e) => Two::Refused(s, e),
             };
         }

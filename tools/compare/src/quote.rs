@@ -1,52 +1,67 @@
-//! Cells as quotes: whether a cell has a quote, and how it prints.
+//! Cells as quotes: the lowest with a quote, and how one prints.
 pub use oracle::language::INFERENCE;
-use oracle::language::{kind_of, Kind};
+use oracle::language::{kind_of, KINDS};
 use oracle::sexp::Sexp;
 use oracle::Node;
+use std::collections::HashMap;
 
-pub fn is_numbered(number: u32) -> bool {
-    kind_of(number).is_some_and(Kind::is_numbered)
+/// The lowest cell with each quote. A quote is known by its kind, its number and
+/// the lowest cells with the quotes of its parts.
+pub struct Quotes {
+    known: HashMap<Node, u32>,
+    lowest: Vec<u32>,
 }
 
-/// The parts that are cells, annotations among them.
-pub fn parts(number: u32) -> &'static [usize] {
-    match number {
-        INFERENCE => &[2, 3],
-        _ => kind_of(number).map_or(&[], |kind| kind.cells),
-    }
-}
+/// A cell that has no quote.
+const NONE: u32 = u32::MAX;
 
-/// The parts that show in a quote.
-pub fn shown(number: u32) -> &'static [usize] {
-    kind_of(number).map_or(&[], |kind| kind.shown)
-}
-
-/// Whether the cell has this quote. Each part has a lower number than its
-/// whole, which the caller has seen to.
-pub fn is(nodes: &[Node], cell: u32, quote: &Sexp) -> bool {
-    let Some(node) = nodes.get(cell as usize) else {
-        return false;
-    };
-    let Some(kind) = kind_of(node[0]) else {
-        return false;
-    };
-    let parts = kind.shown;
-    match quote {
-        Sexp::Atom(atom) => kind.parts.is_empty() && atom.text() == kind.name,
-        Sexp::List(list) => {
-            let [Sexp::Atom(head), rest @ ..] = list.as_slice() else {
-                return false;
-            };
-            if head.text() != kind.name {
-                return false;
-            }
-            if kind.is_numbered() {
-                return matches!(rest, [n] if n.number() == Some(node[1] as usize));
-            }
-            rest.len() == parts.len()
-                && !parts.is_empty()
-                && parts.iter().zip(rest).all(|(part, quote)| is(nodes, node[*part], quote))
+impl Quotes {
+    /// Of cells by their numbers, parts before the whole.
+    pub fn of(nodes: &[Node]) -> Self {
+        let mut quotes = Self {
+            known: HashMap::with_capacity(nodes.len()),
+            lowest: Vec::with_capacity(nodes.len()),
+        };
+        for (i, node) in nodes.iter().enumerate() {
+            let lowest = kind_of(node[0]).map_or(NONE, |kind| {
+                let mut look = [node[0], 0, 0, 0];
+                if kind.is_numbered() {
+                    look[1] = node[1];
+                }
+                for part in kind.shown {
+                    look[*part] = quotes.lowest[node[*part] as usize];
+                }
+                *quotes.known.entry(look).or_insert(i as u32)
+            });
+            quotes.lowest.push(lowest);
         }
+        quotes
+    }
+
+    /// The lowest cell with the quote of this one.
+    pub fn lowest(&self, cell: usize) -> u32 {
+        self.lowest[cell]
+    }
+
+    /// The lowest cell with this quote.
+    pub fn cell(&self, quote: &Sexp) -> Option<u32> {
+        let (name, parts) = match quote {
+            Sexp::Atom(name) => (name, &[][..]),
+            Sexp::List(list) => match list.as_slice() {
+                [Sexp::Atom(name), parts @ ..] => (name, parts),
+                _ => return None,
+            },
+        };
+        let kind = KINDS.iter().find(|kind| kind.name == name.text())?;
+        let mut look = [u32::from(kind.byte), 0, 0, 0];
+        if kind.is_numbered() {
+            look[1] = u32::try_from(parts.first()?.number()?).ok()?;
+        } else {
+            for (place, part) in kind.shown.iter().zip(parts) {
+                look[*place] = self.cell(part)?;
+            }
+        }
+        self.known.get(&look).copied()
     }
 }
 

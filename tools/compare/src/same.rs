@@ -1,10 +1,10 @@
 //! Whether what the program left is what the oracle says: every answer word,
 //! every row, every cell, the counts, and that no other word changed.
 //!
-//! Numbers of cells are open to the program. So its cells are mapped to the
-//! oracle's by kind and parts, and what names a cell is compared by quote.
+//! Cells have the numbers that the oracle counts by itself, and a row's argument
+//! and a result are the lowest cell with their quote, looked up among its cells.
 use crate::program::{all, Left, FILLS};
-use crate::quote;
+use crate::quote::{self, Quotes};
 use oracle::language::rule_number;
 use oracle::sexp::Sexp;
 use oracle::{Node, Ran, Value};
@@ -32,12 +32,13 @@ pub fn compare(left: &Left, ran: &Ran) -> Result<(), Difference> {
     counts(left, ran)?;
     tree(left.rows, ran.rows.len(), ROW, 20..24)?;
     tree(left.cells, ran.cells as usize, CELL, 6..8)?;
-    let nodes = cells(left, ran)?;
+    let quotes = Quotes::of(&ran.nodes);
+    cells(left, ran, &quotes)?;
     for i in 0..ran.answers.len() {
-        answer(left, ran, &nodes, i)?;
+        answer(left, ran, &quotes, i)?;
     }
     for i in 0..ran.rows.len() {
-        row(left, ran, &nodes, i)?;
+        row(left, ran, &quotes, i)?;
     }
     Ok(())
 }
@@ -94,85 +95,35 @@ fn tree(
     want(one, || format!("entries of {size} words: not one parent each"))
 }
 
-/// The cells are the oracle's, whatever their numbers: each different node once,
-/// parts below the whole; the word for the quote is the lowest cell with it; an
-/// inference remembers the same type and row; a node's spare word is 0.
-fn cells(left: &Left, ran: &Ran) -> Result<Vec<Node>, Difference> {
-    let nodes = nodes_of(left.cells, ran.cells);
-    for (i, node) in nodes.iter().enumerate() {
-        let low = quote::parts(node[0]).iter().all(|part| (node[*part] as usize) < i);
-        want(low, || format!("cell {i}: a part {node:?} is not below it"))?;
-    }
-    let map = mapped(&nodes, &ran.nodes)?;
-    let mut lowest = HashMap::new();
-    let mut quotes: Vec<u32> = Vec::with_capacity(nodes.len());
-    for (i, node) in nodes.iter().enumerate() {
+/// The cells are the oracle's, number by number: kind and parts, unused ones 0; the
+/// word for the quote is the lowest cell with it; an inference remembers the same
+/// type and row; a node's spare word is 0.
+fn cells(left: &Left, ran: &Ran, quotes: &Quotes) -> Result<(), Difference> {
+    let known: HashMap<u32, [u32; 2]> =
+        ran.remembered.iter().map(|[cell, ty, row]| (*cell, [*ty, *row])).collect();
+    for (i, wanted) in ran.nodes.iter().enumerate() {
         let words = &left.cells[i * CELL..(i + 1) * CELL];
-        let mut look = [node[0], 0, 0, 0];
-        if quote::is_numbered(node[0]) {
-            look[1] = node[1];
-        }
-        for part in quote::shown(node[0]) {
-            look[*part] = quotes[node[*part] as usize];
-        }
-        if node[0] == quote::INFERENCE {
-            quotes.push(u32::MAX);
+        want(words[..4] == *wanted, || {
+            format!("cell {i} is {:?}, wanted {wanted:?}", &words[..4])
+        })?;
+        if wanted[0] == quote::INFERENCE {
+            let (got, wanted) = (&words[4..6], known.get(&(i as u32)));
+            want(wanted.is_some_and(|wanted| got == wanted), || {
+                format!("cell {i}: it remembers {got:?}, wanted {wanted:?} (type's cell, row)")
+            })?;
             continue;
         }
-        let first = *lowest.entry(look).or_insert(i as u32);
-        quotes.push(first);
-        want(words[4] == first, || {
-            format!("cell {i}: the lowest with its quote is {}, wanted {first}", words[4])
+        let (got, lowest) = (words[4], quotes.lowest(i));
+        want(got == lowest, || {
+            format!("cell {i}: the lowest with its quote is {got}, wanted {lowest}")
         })?;
         want(words[5] == 0, || format!("cell {i}: spare word {}", words[5]))?;
     }
-    remembered(left, ran, &nodes, &map)?;
-    Ok(nodes)
-}
-
-/// The oracle's number of each of the program's cells.
-fn mapped(nodes: &[Node], wanted: &[Node]) -> Result<Vec<u32>, Difference> {
-    if nodes == wanted {
-        return Ok((0..nodes.len() as u32).collect());
-    }
-    let known: HashMap<&Node, u32> = wanted.iter().zip(0..).collect();
-    let mut map: Vec<u32> = Vec::with_capacity(nodes.len());
-    let mut used = vec![false; wanted.len()];
-    for (i, node) in nodes.iter().enumerate() {
-        let mut there = *node;
-        for part in quote::parts(node[0]) {
-            there[*part] = map[node[*part] as usize];
-        }
-        let Some(&cell) = known.get(&there) else {
-            return Err(format!("cell {i} is {node:?}, which should have none"));
-        };
-        want(!used[cell as usize], || format!("cell {i} is {node:?}, which has two"))?;
-        used[cell as usize] = true;
-        map.push(cell);
-    }
-    Ok(map)
-}
-
-fn remembered(left: &Left, ran: &Ran, nodes: &[Node], map: &[u32]) -> Result<(), Difference> {
-    let known: HashMap<u32, [u32; 2]> =
-        ran.remembered.iter().map(|[cell, ty, row]| (*cell, [*ty, *row])).collect();
-    let mut count = 0;
-    for (i, node) in nodes.iter().enumerate() {
-        if node[0] != quote::INFERENCE {
-            continue;
-        }
-        count += 1;
-        let words = &left.cells[i * CELL..(i + 1) * CELL];
-        let got = map.get(words[4] as usize).map(|ty| [*ty, words[5]]);
-        let wanted = known.get(&map[i]).copied();
-        want(got.is_some() && got == wanted, || {
-            format!("cell {i}: it remembers {got:?}, wanted {wanted:?} (type's cell, row)")
-        })?;
-    }
+    let count = ran.nodes.iter().filter(|node| node[0] == quote::INFERENCE).count();
     want(count == known.len(), || format!("{count} inferences, wanted {}", known.len()))
 }
 
-fn answer(left: &Left, ran: &Ran, nodes: &[Node], i: usize) -> Result<(), Difference> {
+fn answer(left: &Left, ran: &Ran, quotes: &Quotes, i: usize) -> Result<(), Difference> {
     let wanted = &ran.answers[i];
     let words = &left.answers[i * ANSWER..(i + 1) * ANSWER];
     let row = wanted.row.map_or(NO_ROW, |row| row as u32);
@@ -188,13 +139,16 @@ fn answer(left: &Left, ran: &Ran, nodes: &[Node], i: usize) -> Result<(), Differ
         Value::Level(level) => {
             want(got as usize == *level, || format!("call {i}'s level: {got}, wanted {level}"))
         }
-        Value::Quote(quote) => want(quote::is(nodes, got, quote), || {
-            format!("call {i}'s result: {}, wanted {quote}", quote::text(nodes, got))
-        }),
+        Value::Quote(quote) => {
+            let cell = quotes.cell(quote);
+            want(cell == Some(got), || {
+                format!("call {i}'s result: {got}, wanted {cell:?} ({quote})")
+            })
+        }
     }
 }
 
-fn row(left: &Left, ran: &Ran, nodes: &[Node], i: usize) -> Result<(), Difference> {
+fn row(left: &Left, ran: &Ran, quotes: &Quotes, i: usize) -> Result<(), Difference> {
     let wanted = &ran.rows[i];
     let words = &left.rows[i * ROW..(i + 1) * ROW];
     let number = rule_number(&wanted.rule) as u32;
@@ -218,16 +172,16 @@ fn row(left: &Left, ran: &Ran, nodes: &[Node], i: usize) -> Result<(), Differenc
     })?;
     for place in 0..5 {
         let got = words[13 + place];
-        let holds = match arguments.get(place) {
-            None => got == 0,
+        let argument = match arguments.get(place) {
+            None => Some(0),
             Some(argument) => match argument.number() {
-                Some(n) => got as usize == n,
-                None => quote::is(nodes, got, argument),
+                Some(n) => u32::try_from(n).ok(),
+                None => quotes.cell(argument),
             },
         };
-        want(holds, || {
-            let quoted = quote::text(nodes, got);
-            format!("row {i}'s argument {place}: {got} ({quoted}), wanted {}", wanted.judgment)
+        want(argument == Some(got), || {
+            let judgment = &wanted.judgment;
+            format!("row {i}'s argument {place}: {got}, wanted {argument:?} ({judgment})")
         })?;
     }
     Ok(())

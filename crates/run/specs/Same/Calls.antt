@@ -17,7 +17,7 @@ use Rattle.syntax.specs.Calls.{TermsAt, no-terms, next-term, CallAt, CallFits, 
 use Rattle.syntax.specs.Fuel.{fit-term}
 use Rattle.link.specs.Asked.{build-term, build-context, call-ctx, call-universe, call-infer, call-check, call-normalize, call-equal}
 use Rattle.run.specs.Build.{made, built, scoped, scoped-body}
-use Rattle.run.specs.Call.{row-alone, row-first, with-sides, with-term, by-code, with-context}
+use Rattle.run.specs.Call.{row-alone, row-first, row-quoted, with-sides, with-term, by-code, with-context}
 use Rattle.run.specs.Same.Steps.{then-same, then-then, then-give, give-then, made-then, made-in}
 use Rattle.run.specs.Same.Terms.{up-is, built-term}
 
@@ -36,17 +36,21 @@ alone-in : {A : Type 0} (m : W A) (f : A → W ℕ) → row-alone (m >>= f) ≡ 
 unfolding row-alone
 alone-in m f = then-then m f _
 
-first-in : {A : Type 0} (m : W A) (f : A → W (ℕ × ℕ)) → row-first (m >>= f) ≡ (m >>= λ a. row-first (f a))
+first-in : (A : Type 0) (m : W A) (f : A → W (ℕ × ℕ)) → row-first (m >>= f) ≡ (m >>= λ a. row-first (f a))
 unfolding row-first
-first-in m f = then-then m f _
+first-in A m f = then-then m f _
+
+quoted-in : (A : Type 0) (m : W A) (f : A → W (ℕ × ℕ)) → row-quoted (m >>= f) ≡ (m >>= λ a. row-quoted (f a))
+unfolding row-quoted
+quoted-in A m f = then-then m f _
 
 -- a call over what is sent: its row and its result
 unfoldable pub by-call : Callees → Code → ℕ → Context → List Term → W (ℕ × ℕ)
 by-call c c-context d g ts = row-alone (call-ctx c d g)
 by-call c c-universe d g ts = row-first (call-universe c d g (nth ts 0))
-by-call c c-infer d g ts = row-first (call-infer c d g (nth ts 0))
+by-call c c-infer d g ts = row-quoted (call-infer c d g (nth ts 0))
 by-call c c-check d g ts = row-alone (call-check c d g (nth ts 0) (nth ts 1))
-by-call c c-normalise d g ts = row-first (call-normalize c d g (nth ts 0) (nth ts 1))
+by-call c c-normalise d g ts = row-quoted (call-normalize c d g (nth ts 0) (nth ts 1))
 by-call c c-equal d g ts = row-alone (call-equal c d g (nth ts 0) (nth ts 1) (nth ts 2))
 
 -- From one offset to another stand terms that become their cells.
@@ -75,18 +79,19 @@ module _ (c : Callees) (types : List Term) where
   row-asked : (k : ℕ → W (ℕ × ℕ)) (m : ℕ → W ℕ) → ((g : ℕ) → k g ≡ row-alone (m g)) → (prepared c make-nil >>= λ nil. scope-cells types nil >>= k) ≡ row-alone (c .ready >>= λ _. build-context (scope-of Nil types) >>= m)
   row-asked k m h = scoping k ∙ then-same (c .ready) (λ _. then-same (build-context (scope-of Nil types)) h ∙ sym (alone-in (build-context (scope-of Nil types)) m)) ∙ sym (alone-in (c .ready) _)
 
-  result-asked : (k m : ℕ → W (ℕ × ℕ)) → ((g : ℕ) → k g ≡ row-first (m g)) → (prepared c make-nil >>= λ nil. scope-cells types nil >>= k) ≡ row-first (c .ready >>= λ _. build-context (scope-of Nil types) >>= m)
-  result-asked k m h = scoping k ∙ then-same (c .ready) (λ _. then-same (build-context (scope-of Nil types)) h ∙ sym (first-in (build-context (scope-of Nil types)) m)) ∙ sym (first-in (c .ready) _)
+  -- `of` is row-first or row-quoted
+  result-asked : (of : W (ℕ × ℕ) → W (ℕ × ℕ)) → ((A : Type 0) (m : W A) (f : A → W (ℕ × ℕ)) → of (m >>= f) ≡ (m >>= λ a. of (f a))) → (k m : ℕ → W (ℕ × ℕ)) → ((g : ℕ) → k g ≡ of (m g)) → (prepared c make-nil >>= λ nil. scope-cells types nil >>= k) ≡ of (c .ready >>= λ _. build-context (scope-of Nil types) >>= m)
+  result-asked of past k m h = scoping k ∙ then-same (c .ready) (λ _. then-same (build-context (scope-of Nil types)) h ∙ sym (past _ (build-context (scope-of Nil types)) m)) ∙ sym (past _ (c .ready) _)
 
 module _ (bytes : List ℕ) (left d : ℕ) (types : List Term) where
   -- the terms of a call, by its code
   coded : (at : ℕ) (code : Code) (ts : List Term) {end : ℕ} → length ts ≡ terms-of code → Sent bytes at ts end → (prepared (callees left) make-nil >>= λ nil. scope-cells types nil >>= λ g. by-code left bytes at (code-number code) d g) ≡ by-call (callees left) code d (scope-of Nil types) ts
   unfolding by-code with-term with-sides by-call when_then_else_ call-ctx call-universe call-infer call-check call-normalize call-equal
   coded at c-context [] l no-sent = row-asked (callees left) types _ (λ g. callees left .ctx d g) (λ g. refl)
-  coded at c-universe (t ∷ []) l (next-sent {middle = m₁} e no-sent) = result-asked (callees left) types _ (λ g. build-term t >>= λ x. callees left .universe d g x) (λ g. rw e (made-then m₁ (build-term t) _ ∙ sym (first-in (build-term t) _)))
-  coded at c-infer (t ∷ []) l (next-sent {middle = m₁} e no-sent) = result-asked (callees left) types _ (λ g. build-term t >>= λ x. callees left .infer d g x) (λ g. rw e (made-then m₁ (build-term t) _ ∙ sym (first-in (build-term t) _)))
+  coded at c-universe (t ∷ []) l (next-sent {middle = m₁} e no-sent) = result-asked (callees left) types row-first first-in _ (λ g. build-term t >>= λ x. callees left .universe d g x) (λ g. rw e (made-then m₁ (build-term t) _ ∙ sym (first-in _ (build-term t) _)))
+  coded at c-infer (t ∷ []) l (next-sent {middle = m₁} e no-sent) = result-asked (callees left) types row-quoted quoted-in _ (λ g. build-term t >>= λ x. callees left .infer d g x) (λ g. rw e (made-then m₁ (build-term t) _ ∙ sym (quoted-in _ (build-term t) _)))
   coded at c-check (t ∷ u ∷ []) l (next-sent {middle = m₁} e (next-sent {middle = m₂} e₂ no-sent)) = row-asked (callees left) types _ (λ g. build-term t >>= λ x. build-term u >>= λ y. callees left .check d g x y) (λ g. rw e (made-then m₁ (build-term t) _ ∙ then-same (build-term t) (λ x. rw e₂ (made-then m₂ (build-term u) _ ∙ sym (alone-in (build-term u) _))) ∙ sym (alone-in (build-term t) _)))
-  coded at c-normalise (t ∷ u ∷ []) l (next-sent {middle = m₁} e (next-sent {middle = m₂} e₂ no-sent)) = result-asked (callees left) types _ (λ g. build-term t >>= λ x. build-term u >>= λ y. callees left .normalize d g x y) (λ g. rw e (made-then m₁ (build-term t) _ ∙ then-same (build-term t) (λ x. rw e₂ (made-then m₂ (build-term u) _ ∙ sym (first-in (build-term u) _))) ∙ sym (first-in (build-term t) _)))
+  coded at c-normalise (t ∷ u ∷ []) l (next-sent {middle = m₁} e (next-sent {middle = m₂} e₂ no-sent)) = result-asked (callees left) types row-quoted quoted-in _ (λ g. build-term t >>= λ x. build-term u >>= λ y. callees left .normalize d g x y) (λ g. rw e (made-then m₁ (build-term t) _ ∙ then-same (build-term t) (λ x. rw e₂ (made-then m₂ (build-term u) _ ∙ sym (quoted-in _ (build-term u) _))) ∙ sym (quoted-in _ (build-term t) _)))
   coded at c-equal (t ∷ u ∷ v ∷ []) l (next-sent {middle = m₁} e (next-sent {middle = m₂} e₂ (next-sent {middle = m₃} e₃ no-sent))) = row-asked (callees left) types _ (λ g. build-term t >>= λ x. build-term u >>= λ y. build-term v >>= λ q. callees left .equal d g x y q) (λ g. rw e (made-then m₁ (build-term t) _ ∙ then-same (build-term t) (λ x. rw e₂ (made-then m₂ (build-term u) _ ∙ then-same (build-term u) (λ y. rw e₃ (made-then m₃ (build-term v) _ ∙ sym (alone-in (build-term v) _))) ∙ sym (alone-in (build-term u) _))) ∙ sym (alone-in (build-term t) _)))
   coded at c-context (t ∷ ts) l e = absurd (omega (arith, l))
   coded at c-universe [] l e = absurd (omega (arith, l))

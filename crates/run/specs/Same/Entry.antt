@@ -8,7 +8,7 @@ use borrow.Author.Tests.{ltb-true}
 use lib.Dec.{ltb}
 use lib.ListN.{length, getD}
 use Rattle.walk.specs.Judgment.{Judgment}
-use Rattle.walk.specs.State.{State, Row}
+use Rattle.walk.specs.State.{State, Row, Thing}
 use Rattle.walk.specs.Reader.{Call}
 use Rattle.walk.specs.Run.{Answer, play, play-all, start}
 use Rattle.walk.specs.Run as W
@@ -18,7 +18,8 @@ use Rattle.order.specs.Cases.{run-cases}
 use Rattle.order.specs.Counts.{run-counts}
 use Rattle.link.specs.Asked.{ask-all, four-words, written-over}
 use Rattle.link.specs.Asked as L
-use Rattle.link.specs.Table.{Answer-at, this-answer, later-answer, Answer-words, Call-at, this-call, later-call, States}
+use Rattle.link.specs.Table.{Cells-words, Answer-at, this-answer, later-answer, Answer-words, Call-at, this-call, later-call, States}
+use Rattle.link.specs.Back.{names}
 use Rattle.link.specs.Words.{Asked-words, answers-fit, words}
 use Rattle.ran.specs.declared.Ran.{Ran}
 use Rattle.run.specs.Run.{Ended, end-run, run-of}
@@ -67,11 +68,11 @@ stated-at (call-on s rest) this-call = record { answer = _; at = this-answer; st
 stated-at (call-on s rest) (later-call c) = let x = stated-at rest c in record { answer = x .answer; at = later-answer (x .at); stated = x .stated }
 
 -- by the words of the answer
-in-words : {n : ℕ} {C A : List ℕ} {table : List Row} {answers : List Answer} {k : ℕ} {c : Call} → Stated-at table answers k c → ((a : Answer) → Answer-at a k answers → Answer-words n C A k a) → getD A (k * 4) 0 ≡ 0 → States n C A table k c
-in-words x w e =
+in-words : {xs : List Thing} {C A : List ℕ} {table : List Row} {answers : List Answer} {k : ℕ} {c : Call} → Cells-words xs C → Stated-at table answers k c → ((a : Answer) → Answer-at a k answers → Answer-words xs A k a) → getD A (k * 4) 0 ≡ 0 → States (length xs) C A table k c
+in-words cs x w e =
     let a = w (x .answer) (x .at) in
     let s = x .stated (sym (a .number) ∙ e) in
-    record { result = x .answer .result; named = a .result; judgment = s .judgment; judged = s .judged; states = rw (a .row) (s .states) }
+    record { result = x .answer .result; named = names cs (x .answer .result) (a .result); judgment = s .judgment; judged = s .judged; states = rw (a .row) (s .states) }
 
 module _ (bytes rows cells answers : List ℕ) where
   -- a run is refused, or read and played
@@ -84,11 +85,11 @@ module _ (bytes rows cells answers : List ℕ) where
   derived-words : Asked-words rows cells answers (walked bytes rows cells answers) → Demand-3 (length rows) (length cells) (walked bytes rows cells answers) → Derived bytes rows cells answers (numbers-of (walked bytes rows cells answers)) (ended (walked bytes rows cells answers) rows cells answers .rows) (ended (walked bytes rows cells answers) rows cells answers .cells) (ended (walked bytes rows cells answers) rows cells answers .answers)
   derived-words a d = record {
     table = walked bytes rows cells answers .last .rows;
-    read = rw (← a .row-count, ← a .cell-count) (a .table);
+    read = a .table .read;
     few = d .few;
     order = d .order;
     distinct = d .distinct;
-    stated = λ k c q e. rw (← a .cell-count) (in-words (stated-at (d .stated) q) (a .each-answer k) e);
+    stated = λ k c q e. in-words (a .table .cells) (stated-at (d .stated) q) (a .each-answer k) e;
     cut-order = d .cut-order;
     cut-distinct = λ n. cut-distinct n _ (d .distinct);
     cut-states = λ n. cut-states n _;
@@ -102,11 +103,9 @@ module _ (bytes rows cells answers : List ℕ) where
   ended-runs a d = record {
     numbers = refl;
     answer-count = counted;
-    each-answer = rw (← a .cell-count) (a .each-answer);
-    table = rw (← a .row-count, ← a .cell-count) (a .table);
-    each-row = rw (← a .cell-count) (a .each-row);
-    each-cell = rw (← a .cell-count) (a .each-cell);
-    each-thing = rw (← a .cell-count) (a .each-thing);
+    each-answer = a .each-answer;
+    table = a .table;
+    memory = a .memory;
     derived = derived-words a d;
     rows-fit = omega (arith, a .rows-length, d .held);
     cells-fit = let c = run-counts (length rows) (length cells) (length answers) bytes .cells in let m = mul-div-le (length cells) 8 in omega (arith, a .cells-length);

@@ -9,7 +9,7 @@ use lib.Dec.{ltb}
 use lib.ListN.{length}
 use lib.Seq.{sets}
 use Rattle.ast.specs.Words.{ifb, up}
-use Rattle.producer.specs.Machine.{Machine, machine, Result, is, not, W, next as on, _>>=_, give}
+use Rattle.producer.specs.Machine.{Machine, machine, Result, is, not, W, next as on, _>>=_, give, lowest}
 use Rattle.producer.specs.Callees.{Callees}
 use Rattle.producer.specs.Calls.{callees}
 use Rattle.walk.specs.Refusal as Refusal
@@ -23,10 +23,10 @@ use Rattle.syntax.specs.declared.scan.Scanned.the-variants.{Calls as Scans}
 use Rattle.syntax.specs.Ends.{run-fault}
 use Rattle.syntax.specs.Calls.{CallAt, CallsAt, no-more, next-call, RunIs, run-is as read-is}
 use Rattle.link.specs.Lists.{written}
-use Rattle.link.specs.Asked.{Said, ask, ask-sized, ask-all, afresh, start, four-words, written-over}
+use Rattle.link.specs.Asked.{Said, lowest-of, ask, ask-sized, ask-all, afresh, start, four-words, written-over}
 use Rattle.link.specs.Asked as L
 use Rattle.link.specs.Words.{said-calls}
-use Rattle.run.specs.Call.{row-alone, row-first, called}
+use Rattle.run.specs.Call.{row-alone, row-first, row-quoted, called}
 use Rattle.run.specs.Run.{low-of, at-most, started, Told, refused-of, told, turned-by, turned, played, Ended, end-run, refused-run, read-run as ended-read, run-by, run-of}
 use Rattle.run.specs.Same.Terms.{up-is}
 use Rattle.run.specs.Same.Calls.{by-call, called-is}
@@ -35,29 +35,30 @@ use Rattle.run.specs.Same.Calls.{by-call, called-is}
 abbrev told-of : Said × Machine → ℕ → Told
 told-of (a, w) next = record { number = a .number; row = a .row; result = a .result; deepest = a .deepest; next = next; left = w }
 
-row-told : (next : ℕ) (m : W ℕ) (w : Machine) → told (row-alone m w) next ≡ told-of (L.told (λ row. row) (λ row. 0) (m w)) next
+row-told : (next : ℕ) (m : W ℕ) (w : Machine) → told (row-alone m w) next ≡ told-of (L.told (λ row. row) (λ row w. 0) (m w)) next
 unfolding row-alone told L.told _>>=_ on give
 row-told next m w = go (m w)
   where
-    go : (r : Result ℕ) → told (on r (λ row. λ w. is (row, 0) w)) next ≡ told-of (L.told (λ row. row) (λ row. 0) r) next
+    go : (r : Result ℕ) → told (on r (λ row. λ w. is (row, 0) w)) next ≡ told-of (L.told (λ row. row) (λ row w. 0) r) next
     go (is a w) = refl
     go (not n w) = refl
 
-result-told : (next : ℕ) (m : W (ℕ × ℕ)) (w : Machine) → told (row-first m w) next ≡ told-of (L.told (λ out. out .1) (λ out. out .0) (m w)) next
-unfolding row-first told L.told _>>=_ on give
-result-told next m w = go (m w)
+-- a row with its result, or with the lowest cell that has the result's quote
+result-told : (next : ℕ) (f : ℕ × ℕ → Machine → ℕ) (m : W (ℕ × ℕ)) (w : Machine) → told ((m >>= λ out. λ w. is (out .1, f out w) w) w) next ≡ told-of (L.told (λ out. out .1) f (m w)) next
+unfolding told L.told _>>=_ on
+result-told next f m w = go (m w)
   where
-    go : (r : Result (ℕ × ℕ)) → told (on r (λ out. λ w. is (out .1, out .0) w)) next ≡ told-of (L.told (λ out. out .1) (λ out. out .0) r) next
+    go : (r : Result (ℕ × ℕ)) → told (on r (λ out. λ w. is (out .1, f out w) w)) next ≡ told-of (L.told (λ out. out .1) f r) next
     go (is a w) = refl
     go (not n w) = refl
 
 asked : (next : ℕ) (c : Callees) (code : Code) (d : ℕ) (g : Context) (ts : List Term) (w : Machine) → told (by-call c code d g ts w) next ≡ told-of (ask c code d g ts w) next
-unfolding by-call ask
+unfolding by-call ask row-first row-quoted lowest give
 asked next c c-context d g ts w = row-told next _ w
-asked next c c-universe d g ts w = result-told next _ w
-asked next c c-infer d g ts w = result-told next _ w
+asked next c c-universe d g ts w = result-told next (λ out w. out .0) _ w
+asked next c c-infer d g ts w = result-told next lowest-of _ w
 asked next c c-check d g ts w = row-told next _ w
-asked next c c-normalise d g ts w = result-told next _ w
+asked next c c-normalise d g ts w = result-told next lowest-of _ w
 asked next c c-equal d g ts w = row-told next _ w
 
 low-is : (n : ℕ) → n < 4294967296 → low-of n ≡ n

@@ -89,6 +89,9 @@ infer-requires c κs = search needs
 enum-known-s-5 : tie.Need-enum-known-s-5
 enum-known-s-5 c = search needs
 
+quote-requires : tie.Need-quote-requires
+quote-requires c κs = search needs
+
 enum-known-s-6 : tie.Need-enum-known-s-6
 enum-known-s-6 c = search needs
 
@@ -100,7 +103,8 @@ same-length-12 c = search needs
 
 returns-6 : tie.Need-returns-6
 unfolding by-code steps
-returns-6 c = rw (ne-eqb _ _ (c .before .before .before .before .before .before .before .before .before .before .before .before .before .before .before .before .before .before .before .if1 .left), ← c .before .before .before .before .before .before .before .before .before .before .before .before .before .before .before .before .build .ensures, c .before .before .before .before .before .before .before .before .before .before .before .before .q .given .1, c .before .before .before .before .before .before .before .before .before .before .match3 .keys2, ← c .before .before .before .before .before .before .before .infer .ensures, c .before .s5 .given .1)
+returns-6 c = rw (ne-eqb _ _ (c .before .before .before .before .before .before .before .before .before .before .before .before .before .before .before .before .before .before .before .before .before .if1 .left), ← c .before .before .before .before .before .before .before .before .before .before .before .before .before .before .before .before .before .before .build .ensures, c .before .before .before .before .before .before .before .before .before .before .before .before .before .before .q .given .1, c .before .before .before .before .before .before .before .before .before .before .before .before .match3 .keys2, ← c .before .before .before .before .before .before .before .before .before .infer .ensures, c .before .before .before .s5 .given .1)
+    (rw (← c .quote .ensures))
 
 same-length-13 : tie.Need-same-length-13
 same-length-13 c = search needs
@@ -155,6 +159,7 @@ enter-spec =
     returns-5
     infer-requires
     enum-known-s-5
+    quote-requires
     enum-known-s-6
     same-length-11
     same-length-12

@@ -60,6 +60,9 @@ normalize-requires c κs = search needs
 enum-known-s-3 : tie.Need-enum-known-s-3
 enum-known-s-3 c = search needs
 
+quote-requires : tie.Need-quote-requires
+quote-requires c κs = search needs
+
 enum-known-s-4 : tie.Need-enum-known-s-4
 enum-known-s-4 c = search needs
 
@@ -71,7 +74,7 @@ same-length-8 c = search needs
 
 returns-4 : tie.Need-returns-4
 unfolding with-term steps
-returns-4 c = rw (← c .before .before .before .before .before .before .before .before .before .before .before .before .before .before .before .before .build .ensures, c .before .before .before .before .before .before .before .before .before .before .before .before .q .given .1, c .before .before .before .before .before .before .before .before .before .before .match2 .keys2, ← c .before .before .before .before .before .before .before .normalize .ensures, c .before .s3 .given .1)
+returns-4 c = rw (← c .before .before .before .before .before .before .before .before .before .before .before .before .before .before .before .before .before .before .build .ensures, c .before .before .before .before .before .before .before .before .before .before .before .before .before .before .q .given .1, c .before .before .before .before .before .before .before .before .before .before .before .before .match2 .keys2, ← c .before .before .before .before .before .before .before .before .before .normalize .ensures, c .before .before .before .s3 .given .1, ← c .quote .ensures)
 
 same-length-9 : tie.Need-same-length-9
 same-length-9 c = search needs
@@ -117,6 +120,7 @@ enter-two-spec =
     returns-3
     normalize-requires
     enum-known-s-3
+    quote-requires
     enum-known-s-4
     same-length-7
     same-length-8
