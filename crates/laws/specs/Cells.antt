@@ -69,12 +69,11 @@ module _ {xs : List Thing} {C : List ℕ} (cs : Cells-words xs C) where
       -- end of terms
 
 -- in words that stand for a state
-module _ {o : Before} {w : Machine} {s : State} {n : ℕ} (h : Holds o w s) where
-  told : Cells-words (s .cells) (w .cells)
-  told = rw (h .words .cells-end) (cells-told _ (h .words .cells-are))
+told : {o : Before} {w : Machine} {s : State} → Holds o w s → Cells-words (s .cells) (w .cells)
+told h = rw (h .words .cells-end) (cells-told _ (h .words .cells-are))
 
-  pub term-back : {t : Term} → Cell n (term t) (s .cells) → term-at (w .state .cells) (w .cells) n ≡ some t
-  term-back {t} c = let k = cell-nth c in rw (h .counts) (back told _ n t (nth-below k) k)
+pub term-back : {o : Before} {w : Machine} {s : State} {n : ℕ} {t : Term} → Holds o w s → Cell n (term t) (s .cells) → term-at (w .state .cells) (w .cells) n ≡ some t
+term-back {n = n} {t = t} h c = let k = cell-nth c in rw (h .counts) (back (told h) _ n t (nth-below k) k)
 
-  pub interval-read : {r : Interval} → Cell n (interval r) (s .cells) → interval-at (w .state .cells) (w .cells) n ≡ some r
-  interval-read {r} c = let k = cell-nth c in rw (h .counts) (interval-back told _ n r (nth-below k) k)
+pub interval-read : {o : Before} {w : Machine} {s : State} {n : ℕ} {r : Interval} → Holds o w s → Cell n (interval r) (s .cells) → interval-at (w .state .cells) (w .cells) n ≡ some r
+interval-read {n = n} {r = r} h c = let k = cell-nth c in rw (h .counts) (interval-back (told h) _ n r (nth-below k) k)

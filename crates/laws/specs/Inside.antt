@@ -31,7 +31,7 @@ use Rattle.order.specs.Guarded.{word, guarded}
 use Rattle.order.specs.Bound.{Fit}
 use Rattle.order.specs.Sent.{scope-low, Let, let-in}
 use Rattle.link.specs.Lists.{yes?}
-use Rattle.link.specs.Things.{Cell, cell-lift, cell-number}
+use Rattle.link.specs.Things.{Cell, cell-lift, low-number}
 use Rattle.link.specs.Holds.{Before, Holds}
 use Rattle.link.specs.Match.{Agree, both-done, both-refused, by-guard, Returns}
 use Rattle.link.specs.Linked.{Linked, Ops, o-shift, o-subst, o-dshift, o-dsubst, ops-lift, IOps, i-shift, i-subst, iops-lift}
@@ -219,7 +219,7 @@ checking-linked N (ℕ.suc n) =
 results-same : {xs : List Thing} {n m : ℕ} {r : R.Result} → Words xs n r → Words xs m r → n ≡ m
 results-same no-word no-word = refl
 results-same (level-word e) (level-word f) = e ∙ sym f
-results-same (term-word c) (term-word d) = cell-number c d
+results-same (term-word c) (term-word d) = low-number c d
 
 says-same : {xs : List Thing} {a b : Said} {answer : R.Answer} → Says xs a answer → Says xs b answer → a ≡ b
 says-same h k = λ i. record {
