@@ -134,125 +134,72 @@ module _ {w : Machine} (store : Store w) where
   itop : {n : ℕ} (c : Interval-cell store n) → interval-top (c .of) ≤ 65535
   itop c = small-cell (store .small) (c .stands)
 
-  on-shift-subst :
-      {k t a t₁ t₂ : ℕ} {w₁ w₂ : Machine} → k ≤ 65535 → Term-cell store t → Term-cell store a →
-      Does w t (O.Shift k) t₁ w₁ → Does w₁ t₁ (O.Subst k a) t₂ w₂ →
-      t₂ ≡ t
-  on-shift-subst {k = k} l t a d₁ d₂ =
-      let l₁ = top t in let l₂ = top a in
-      step (store .holds) 65535 (omega arith) (t .stands) o-shift (omega arith) d₁ λ s₁ e₁ h₁ c₁ m₁.
-      step h₁ 69631 (omega arith) c₁ (o-subst (cell-lift e₁ (a .stands))) (omega arith) d₂ λ s₂ e₂ h₂ c₂ m₂.
-      one-cell (ap term (S.subst-shift k (a .of) (t .of))) c₂ (cell-lift (extends-trans e₁ e₂) (t .stands))
-
-  on-subst-subst :
-      {k t a b t₁ t₂ b′ u₁ a′ u₂ : ℕ} {w₁ w₂ w₃ w₄ w₅ w₆ : Machine} → k ≤ 65535 →
-      Term-cell store t → Term-cell store a → Term-cell store b →
-      Does w t (O.Subst 0 a) t₁ w₁ → Does w₁ t₁ (O.Subst k b) t₂ w₂ →
-      Does w₂ b (O.Shift 0) b′ w₃ → Does w₃ t (O.Subst (suc k) b′) u₁ w₄ →
-      Does w₄ a (O.Subst k b) a′ w₅ → Does w₅ u₁ (O.Subst 0 a′) u₂ w₆ →
-      t₂ ≡ u₂
-  on-subst-subst {k = k} l t a b d₁ d₂ d₃ d₄ d₅ d₆ =
-      let l₁ = top t in let l₂ = top a in let l₃ = top b in
-      step (store .holds) 65535 (omega arith) (t .stands) (o-subst (a .stands)) (omega arith) d₁ λ s₁ e₁ h₁ c₁ m₁.
-      step h₁ 69631 (omega arith) c₁ (o-subst (cell-lift e₁ (b .stands))) (omega arith) d₂ λ s₂ e₂ h₂ c₂ m₂.
-      let f₂ = extends-trans e₁ e₂ in
-      step h₂ 65535 (omega arith) (cell-lift f₂ (b .stands)) o-shift (omega arith) d₃ λ s₃ e₃ h₃ c₃ m₃.
-      let f₃ = extends-trans f₂ e₃ in
-      step h₃ 69631 (omega arith) (cell-lift f₃ (t .stands)) (o-subst c₃) (omega arith) d₄ λ s₄ e₄ h₄ c₄ m₄.
-      let f₄ = extends-trans f₃ e₄ in
-      step h₄ 65535 (omega arith) (cell-lift f₄ (a .stands)) (o-subst (cell-lift f₄ (b .stands))) (omega arith) d₅ λ s₅ e₅ h₅ c₅ m₅.
-      step h₅ 73727 (omega arith) (cell-lift e₅ c₄) (o-subst c₅) (omega arith) d₆ λ s₆ e₆ h₆ c₆ m₆.
-      let later = extends-trans e₃ (extends-trans e₄ (extends-trans e₅ e₆)) in
-      one-cell (ap term (S.subst-subst 0 k zero-le (a .of) (b .of) (t .of))) (cell-lift later c₂) c₆
-
-  on-subst-dsubst :
-      {j k t a s t₁ t₂ u₁ a′ u₂ : ℕ} {w₁ w₂ w₃ w₄ w₅ : Machine} → j ≤ 65535 → k ≤ 65535 →
-      Term-cell store t → Term-cell store a → Interval-cell store s →
-      Does w t (O.Subst k a) t₁ w₁ → Does w₁ t₁ (O.DSubst j s) t₂ w₂ →
-      Does w₂ t (O.DSubst j s) u₁ w₃ → Does w₃ a (O.DSubst j s) a′ w₄ → Does w₄ u₁ (O.Subst k a′) u₂ w₅ →
-      t₂ ≡ u₂
-  on-subst-dsubst {j = j} {k = k} i l t a s d₁ d₂ d₃ d₄ d₅ =
-      let l₁ = top t in let l₂ = top a in let l₃ = itop s in
-      step (store .holds) 65535 (omega arith) (t .stands) (o-subst (a .stands)) (omega arith) d₁ λ s₁ e₁ h₁ c₁ m₁.
-      step h₁ 69631 (omega arith) c₁ (o-dsubst (cell-lift e₁ (s .stands))) (omega arith) d₂ λ s₂ e₂ h₂ c₂ m₂.
-      let f₂ = extends-trans e₁ e₂ in
-      step h₂ 65535 (omega arith) (cell-lift f₂ (t .stands)) (o-dsubst (cell-lift f₂ (s .stands))) (omega arith) d₃ λ s₃ e₃ h₃ c₃ m₃.
-      let f₃ = extends-trans f₂ e₃ in
-      step h₃ 65535 (omega arith) (cell-lift f₃ (a .stands)) (o-dsubst (cell-lift f₃ (s .stands))) (omega arith) d₄ λ s₄ e₄ h₄ c₄ m₄.
-      step h₄ 69631 (omega arith) (cell-lift e₄ c₃) (o-subst c₄) (omega arith) d₅ λ s₅ e₅ h₅ c₅ m₅.
-      one-cell (ap term (S.dsubst-subst j k (s .of) (a .of) (t .of))) (cell-lift (extends-trans e₃ (extends-trans e₄ e₅)) c₂) c₅
-
-  on-dshift-dsubst :
-      {k t s t₁ t₂ : ℕ} {w₁ w₂ : Machine} → k ≤ 65535 → Term-cell store t → Interval-cell store s →
-      Does w t (O.DShift k) t₁ w₁ → Does w₁ t₁ (O.DSubst k s) t₂ w₂ →
-      t₂ ≡ t
-  on-dshift-dsubst {k = k} l t s d₁ d₂ =
-      let l₁ = top t in let l₂ = itop s in
-      step (store .holds) 65535 (omega arith) (t .stands) o-dshift (omega arith) d₁ λ s₁ e₁ h₁ c₁ m₁.
-      step h₁ 69631 (omega arith) c₁ (o-dsubst (cell-lift e₁ (s .stands))) (omega arith) d₂ λ s₂ e₂ h₂ c₂ m₂.
-      one-cell (ap term (S.dsubst-dshift k (s .of) (t .of))) c₂ (cell-lift (extends-trans e₁ e₂) (t .stands))
-
-  on-dsubst-dsubst :
-      {k t r s t₁ t₂ s′ u₁ r′ u₂ : ℕ} {w₁ w₂ w₃ w₄ w₅ w₆ : Machine} → k ≤ 65535 →
-      Term-cell store t → Interval-cell store r → Interval-cell store s →
-      Does w t (O.DSubst 0 r) t₁ w₁ → Does w₁ t₁ (O.DSubst k s) t₂ w₂ →
-      IDoes w₂ s (I.IShift 0) s′ w₃ → Does w₃ t (O.DSubst (suc k) s′) u₁ w₄ →
-      IDoes w₄ r (I.ISubst k s) r′ w₅ → Does w₅ u₁ (O.DSubst 0 r′) u₂ w₆ →
-      t₂ ≡ u₂
-  on-dsubst-dsubst {k = k} l t r s d₁ d₂ d₃ d₄ d₅ d₆ =
-      let l₁ = top t in let l₂ = itop r in let l₃ = itop s in
-      step (store .holds) 65535 (omega arith) (t .stands) (o-dsubst (r .stands)) (omega arith) d₁ λ s₁ e₁ h₁ c₁ m₁.
-      step h₁ 69631 (omega arith) c₁ (o-dsubst (cell-lift e₁ (s .stands))) (omega arith) d₂ λ s₂ e₂ h₂ c₂ m₂.
-      let f₂ = extends-trans e₁ e₂ in
-      istep h₂ 65535 (omega arith) (cell-lift f₂ (s .stands)) i-shift (omega arith) d₃ λ s₃ e₃ h₃ c₃ m₃.
-      let f₃ = extends-trans f₂ e₃ in
-      step h₃ 69631 (omega arith) (cell-lift f₃ (t .stands)) (o-dsubst c₃) (omega arith) d₄ λ s₄ e₄ h₄ c₄ m₄.
-      let f₄ = extends-trans f₃ e₄ in
-      istep h₄ 65535 (omega arith) (cell-lift f₄ (r .stands)) (i-subst (cell-lift f₄ (s .stands))) (omega arith) d₅ λ s₅ e₅ h₅ c₅ m₅.
-      step h₅ 73727 (omega arith) (cell-lift e₅ c₄) (o-dsubst c₅) (omega arith) d₆ λ s₆ e₆ h₆ c₆ m₆.
-      let later = extends-trans e₃ (extends-trans e₄ (extends-trans e₅ e₆)) in
-      one-cell (ap term (S.dsubst-dsubst 0 k zero-le (r .of) (s .of) (t .of))) (cell-lift later c₂) c₆
-
-  on-ishift-isubst :
-      {k q s q₁ q₂ : ℕ} {w₁ w₂ : Machine} → k ≤ 65535 → Interval-cell store q → Interval-cell store s →
-      IDoes w q (I.IShift k) q₁ w₁ → IDoes w₁ q₁ (I.ISubst k s) q₂ w₂ →
-      q₂ ≡ q
-  on-ishift-isubst {k = k} l q s d₁ d₂ =
-      let l₁ = itop q in let l₂ = itop s in
-      istep (store .holds) 65535 (omega arith) (q .stands) i-shift (omega arith) d₁ λ s₁ e₁ h₁ c₁ m₁.
-      istep h₁ 69631 (omega arith) c₁ (i-subst (cell-lift e₁ (s .stands))) (omega arith) d₂ λ s₂ e₂ h₂ c₂ m₂.
-      one-cell (ap interval (S.isubst-ishift k (s .of) (q .of))) c₂ (cell-lift (extends-trans e₁ e₂) (q .stands))
-
-  on-isubst-isubst :
-      {k q r s q₁ q₂ s′ u₁ r′ u₂ : ℕ} {w₁ w₂ w₃ w₄ w₅ w₆ : Machine} → k ≤ 65535 →
-      Interval-cell store q → Interval-cell store r → Interval-cell store s →
-      IDoes w q (I.ISubst 0 r) q₁ w₁ → IDoes w₁ q₁ (I.ISubst k s) q₂ w₂ →
-      IDoes w₂ s (I.IShift 0) s′ w₃ → IDoes w₃ q (I.ISubst (suc k) s′) u₁ w₄ →
-      IDoes w₄ r (I.ISubst k s) r′ w₅ → IDoes w₅ u₁ (I.ISubst 0 r′) u₂ w₆ →
-      q₂ ≡ u₂
-  on-isubst-isubst {k = k} l q r s d₁ d₂ d₃ d₄ d₅ d₆ =
-      let l₁ = itop q in let l₂ = itop r in let l₃ = itop s in
-      istep (store .holds) 65535 (omega arith) (q .stands) (i-subst (r .stands)) (omega arith) d₁ λ s₁ e₁ h₁ c₁ m₁.
-      istep h₁ 69631 (omega arith) c₁ (i-subst (cell-lift e₁ (s .stands))) (omega arith) d₂ λ s₂ e₂ h₂ c₂ m₂.
-      let f₂ = extends-trans e₁ e₂ in
-      istep h₂ 65535 (omega arith) (cell-lift f₂ (s .stands)) i-shift (omega arith) d₃ λ s₃ e₃ h₃ c₃ m₃.
-      let f₃ = extends-trans f₂ e₃ in
-      istep h₃ 69631 (omega arith) (cell-lift f₃ (q .stands)) (i-subst c₃) (omega arith) d₄ λ s₄ e₄ h₄ c₄ m₄.
-      let f₄ = extends-trans f₃ e₄ in
-      istep h₄ 65535 (omega arith) (cell-lift f₄ (r .stands)) (i-subst (cell-lift f₄ (s .stands))) (omega arith) d₅ λ s₅ e₅ h₅ c₅ m₅.
-      istep h₅ 73727 (omega arith) (cell-lift e₅ c₄) (i-subst c₅) (omega arith) d₆ λ s₆ e₆ h₆ c₆ m₆.
-      let later = extends-trans e₃ (extends-trans e₄ (extends-trans e₅ e₆)) in
-      one-cell (ap interval (S.isubst-isubst 0 k zero-le (r .of) (s .of) (q .of))) (cell-lift later c₂) c₆
-
   pub store-laws : Cell-laws store
   store-laws = record {
-    shift-subst = on-shift-subst;
-    subst-subst = on-subst-subst;
-    subst-dsubst = on-subst-dsubst;
-    dshift-dsubst = on-dshift-dsubst;
-    dsubst-dsubst = on-dsubst-dsubst;
-    ishift-isubst = on-ishift-isubst;
-    isubst-isubst = on-isubst-isubst;
+    shift-subst = λ {k = k} l t a d₁ d₂.
+        let l₁ = top t in let l₂ = top a in
+        step (store .holds) 65535 (omega arith) (t .stands) o-shift (omega arith) d₁ λ s₁ e₁ h₁ c₁ m₁.
+        step h₁ 69631 (omega arith) c₁ (o-subst (cell-lift e₁ (a .stands))) (omega arith) d₂ λ s₂ e₂ h₂ c₂ m₂.
+        one-cell (ap term (S.subst-shift k (a .of) (t .of))) c₂ (cell-lift (extends-trans e₁ e₂) (t .stands));
+    subst-subst = λ {k = k} l t a b d₁ d₂ d₃ d₄ d₅ d₆.
+        let l₁ = top t in let l₂ = top a in let l₃ = top b in
+        step (store .holds) 65535 (omega arith) (t .stands) (o-subst (a .stands)) (omega arith) d₁ λ s₁ e₁ h₁ c₁ m₁.
+        step h₁ 69631 (omega arith) c₁ (o-subst (cell-lift e₁ (b .stands))) (omega arith) d₂ λ s₂ e₂ h₂ c₂ m₂.
+        let f₂ = extends-trans e₁ e₂ in
+        step h₂ 65535 (omega arith) (cell-lift f₂ (b .stands)) o-shift (omega arith) d₃ λ s₃ e₃ h₃ c₃ m₃.
+        let f₃ = extends-trans f₂ e₃ in
+        step h₃ 69631 (omega arith) (cell-lift f₃ (t .stands)) (o-subst c₃) (omega arith) d₄ λ s₄ e₄ h₄ c₄ m₄.
+        let f₄ = extends-trans f₃ e₄ in
+        step h₄ 65535 (omega arith) (cell-lift f₄ (a .stands)) (o-subst (cell-lift f₄ (b .stands))) (omega arith) d₅ λ s₅ e₅ h₅ c₅ m₅.
+        step h₅ 73727 (omega arith) (cell-lift e₅ c₄) (o-subst c₅) (omega arith) d₆ λ s₆ e₆ h₆ c₆ m₆.
+        let later = extends-trans e₃ (extends-trans e₄ (extends-trans e₅ e₆)) in
+        one-cell (ap term (S.subst-subst 0 k zero-le (a .of) (b .of) (t .of))) (cell-lift later c₂) c₆;
+    subst-dsubst = λ {j = j} {k = k} i l t a s d₁ d₂ d₃ d₄ d₅.
+        let l₁ = top t in let l₂ = top a in let l₃ = itop s in
+        step (store .holds) 65535 (omega arith) (t .stands) (o-subst (a .stands)) (omega arith) d₁ λ s₁ e₁ h₁ c₁ m₁.
+        step h₁ 69631 (omega arith) c₁ (o-dsubst (cell-lift e₁ (s .stands))) (omega arith) d₂ λ s₂ e₂ h₂ c₂ m₂.
+        let f₂ = extends-trans e₁ e₂ in
+        step h₂ 65535 (omega arith) (cell-lift f₂ (t .stands)) (o-dsubst (cell-lift f₂ (s .stands))) (omega arith) d₃ λ s₃ e₃ h₃ c₃ m₃.
+        let f₃ = extends-trans f₂ e₃ in
+        step h₃ 65535 (omega arith) (cell-lift f₃ (a .stands)) (o-dsubst (cell-lift f₃ (s .stands))) (omega arith) d₄ λ s₄ e₄ h₄ c₄ m₄.
+        step h₄ 69631 (omega arith) (cell-lift e₄ c₃) (o-subst c₄) (omega arith) d₅ λ s₅ e₅ h₅ c₅ m₅.
+        one-cell (ap term (S.dsubst-subst j k (s .of) (a .of) (t .of))) (cell-lift (extends-trans e₃ (extends-trans e₄ e₅)) c₂) c₅;
+    dshift-dsubst = λ {k = k} l t s d₁ d₂.
+        let l₁ = top t in let l₂ = itop s in
+        step (store .holds) 65535 (omega arith) (t .stands) o-dshift (omega arith) d₁ λ s₁ e₁ h₁ c₁ m₁.
+        step h₁ 69631 (omega arith) c₁ (o-dsubst (cell-lift e₁ (s .stands))) (omega arith) d₂ λ s₂ e₂ h₂ c₂ m₂.
+        one-cell (ap term (S.dsubst-dshift k (s .of) (t .of))) c₂ (cell-lift (extends-trans e₁ e₂) (t .stands));
+    dsubst-dsubst = λ {k = k} l t r s d₁ d₂ d₃ d₄ d₅ d₆.
+        let l₁ = top t in let l₂ = itop r in let l₃ = itop s in
+        step (store .holds) 65535 (omega arith) (t .stands) (o-dsubst (r .stands)) (omega arith) d₁ λ s₁ e₁ h₁ c₁ m₁.
+        step h₁ 69631 (omega arith) c₁ (o-dsubst (cell-lift e₁ (s .stands))) (omega arith) d₂ λ s₂ e₂ h₂ c₂ m₂.
+        let f₂ = extends-trans e₁ e₂ in
+        istep h₂ 65535 (omega arith) (cell-lift f₂ (s .stands)) i-shift (omega arith) d₃ λ s₃ e₃ h₃ c₃ m₃.
+        let f₃ = extends-trans f₂ e₃ in
+        step h₃ 69631 (omega arith) (cell-lift f₃ (t .stands)) (o-dsubst c₃) (omega arith) d₄ λ s₄ e₄ h₄ c₄ m₄.
+        let f₄ = extends-trans f₃ e₄ in
+        istep h₄ 65535 (omega arith) (cell-lift f₄ (r .stands)) (i-subst (cell-lift f₄ (s .stands))) (omega arith) d₅ λ s₅ e₅ h₅ c₅ m₅.
+        step h₅ 73727 (omega arith) (cell-lift e₅ c₄) (o-dsubst c₅) (omega arith) d₆ λ s₆ e₆ h₆ c₆ m₆.
+        let later = extends-trans e₃ (extends-trans e₄ (extends-trans e₅ e₆)) in
+        one-cell (ap term (S.dsubst-dsubst 0 k zero-le (r .of) (s .of) (t .of))) (cell-lift later c₂) c₆;
+    ishift-isubst = λ {k = k} l q s d₁ d₂.
+        let l₁ = itop q in let l₂ = itop s in
+        istep (store .holds) 65535 (omega arith) (q .stands) i-shift (omega arith) d₁ λ s₁ e₁ h₁ c₁ m₁.
+        istep h₁ 69631 (omega arith) c₁ (i-subst (cell-lift e₁ (s .stands))) (omega arith) d₂ λ s₂ e₂ h₂ c₂ m₂.
+        one-cell (ap interval (S.isubst-ishift k (s .of) (q .of))) c₂ (cell-lift (extends-trans e₁ e₂) (q .stands));
+    isubst-isubst = λ {k = k} l q r s d₁ d₂ d₃ d₄ d₅ d₆.
+        let l₁ = itop q in let l₂ = itop r in let l₃ = itop s in
+        istep (store .holds) 65535 (omega arith) (q .stands) (i-subst (r .stands)) (omega arith) d₁ λ s₁ e₁ h₁ c₁ m₁.
+        istep h₁ 69631 (omega arith) c₁ (i-subst (cell-lift e₁ (s .stands))) (omega arith) d₂ λ s₂ e₂ h₂ c₂ m₂.
+        let f₂ = extends-trans e₁ e₂ in
+        istep h₂ 65535 (omega arith) (cell-lift f₂ (s .stands)) i-shift (omega arith) d₃ λ s₃ e₃ h₃ c₃ m₃.
+        let f₃ = extends-trans f₂ e₃ in
+        istep h₃ 69631 (omega arith) (cell-lift f₃ (q .stands)) (i-subst c₃) (omega arith) d₄ λ s₄ e₄ h₄ c₄ m₄.
+        let f₄ = extends-trans f₃ e₄ in
+        istep h₄ 65535 (omega arith) (cell-lift f₄ (r .stands)) (i-subst (cell-lift f₄ (s .stands))) (omega arith) d₅ λ s₅ e₅ h₅ c₅ m₅.
+        istep h₅ 73727 (omega arith) (cell-lift e₅ c₄) (i-subst c₅) (omega arith) d₆ λ s₆ e₆ h₆ c₆ m₆.
+        let later = extends-trans e₃ (extends-trans e₄ (extends-trans e₅ e₆)) in
+        one-cell (ap interval (S.isubst-isubst 0 k zero-le (r .of) (s .of) (q .of))) (cell-lift later c₂) c₆;
   }
 
 -- for all bytes and all slices: from what any of a run's calls leave
