@@ -55,7 +55,7 @@ fault 'two premises are cited the wrong way round' producer/src/typing.rt \
     '                let refs = cite2(x, y);' '                let refs = cite2(y, x);'
 fault '20 while there is space' run/src/entry.rt \
     '    let cellroom = cap(cells / 8, 4294967295);' '    let cellroom = cap(cells / 9, 4294967295);'
-fault 'a refused conversion is not ended' producer/src/state.rt \
+fault 'a refused conversion is not ended' producer/src/answers.rt \
     '            Got::Refused(s.converting(n), e)' '            Got::Refused(s, e)'
 [ "$failed" -eq 0 ] && echo "every fault is caught"
 exit "$failed"
