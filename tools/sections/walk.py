@@ -248,7 +248,11 @@ def _():
         'codes = %s[]' % ''.join('some c-%s ∷ ' % c.name for c in CALLS),
         '',
         'abbrev pub terms-of : Code → ℕ',
-    ] + ['terms-of c-%s = %d' % (c.name, len(c.terms)) for c in CALLS]
+    ] + ['terms-of c-%s = %d' % (c.name, len(c.terms)) for c in CALLS] + [
+        '',
+        '-- Whether a count and that many types come after them.',
+        'abbrev pub lists-types : Code → Bool',
+    ] + ['lists-types c-%s = %s' % (c.name, 'true' if c.counted else 'false') for c in CALLS]
 
 
 READS = {'number': 'byte', 'term': 'read-term f', 'interval': 'read-interval f'}

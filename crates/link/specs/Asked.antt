@@ -6,7 +6,7 @@ use Rattle.producer.specs.Machine.{Machine, machine, new-state, fresh, Result, 
 use Rattle.producer.specs.Callees.{Callees}
 use Rattle.producer.specs.Calls.{callees}
 use Rattle.walk.specs.Syntax.{Interval, I0, I1, Dim, Neg, Meet, Join, Term, Universe, Var, Nat, Zero, Pi, Lam, App, Path, PathLam, PathApp, Sigma, Pair, Fst, Snd, Context, Nil, Cons}
-use Rattle.walk.specs.Reader.{Code, c-context, c-universe, c-infer, c-check, c-normalise, c-equal, Call}
+use Rattle.walk.specs.Reader.{Code, c-context, c-universe, c-infer, c-check, c-normalise, c-equal, c-many, Call}
 use Rattle.walk.specs.Refusal as Refusal
 use Rattle.walk.specs.Limits.{Sized, fits, scope-over, size-over, index-over, size-call}
 use Rattle.walk.specs.Run.{scope-of, nth}

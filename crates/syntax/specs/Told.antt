@@ -8,7 +8,7 @@ use lib.Dec.{ltb}
 use lib.ListN.{length, getD, drop}
 use Rattle.walk.specs.Refusal as Refusal
 use Rattle.walk.specs.Syntax.{Term}
-use Rattle.walk.specs.Reader.{Read, got, bad, Code, c-context, c-universe, c-infer, c-check, c-normalise, c-equal, codes, terms-of, Head, Call, read-term, read-terms, read-head, read-call, read-run}
+use Rattle.walk.specs.Reader.{Read, got, bad, Code, c-context, c-universe, c-infer, c-check, c-normalise, c-equal, c-many, codes, terms-of, Head, Call, read-term, read-terms, read-head, read-call, read-run}
 use Rattle.walk.specs.Limits.{Sized, fits, scope-over, size-over, index-over, size-call}
 use Rattle.syntax.specs.declared.scan.Next.{Next}
 use Rattle.syntax.specs.declared.scan.Next.the-variants.{Past, Bad, Short}
@@ -56,9 +56,10 @@ code-number c-infer = 2
 code-number c-check = 3
 code-number c-normalise = 4
 code-number c-equal = 5
+code-number c-many = 6
 
 abbrev pub highest-code : ℕ
-highest-code = 5
+highest-code = 6
 
 -- end of numbers of codes
 

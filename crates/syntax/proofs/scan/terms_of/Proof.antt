@@ -34,7 +34,11 @@ returns-6 c = rw (c .match .keys6)
 
 returns-7 : tie.Need-returns-7
 unfolding terms-in
-returns-7 c = rw (List·getD-eq-default codes none {n = c .before .args .code} (omega arith))
+returns-7 c = rw (c .match .keys7)
+
+returns-8 : tie.Need-returns-8
+unfolding terms-in
+returns-8 c = rw (List·getD-eq-default codes none {n = c .before .args .code} (omega arith))
 
 pub terms-of-spec : {M : Type 1} → statement M
-terms-of-spec = tie.close (tie.spec returns returns-2 returns-3 returns-4 returns-5 returns-6 returns-7)
+terms-of-spec = tie.close (tie.spec returns returns-2 returns-3 returns-4 returns-5 returns-6 returns-7 returns-8)
