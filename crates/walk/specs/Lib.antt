@@ -17,3 +17,4 @@ pub mod Concludes
 pub mod Opened
 pub mod Examples
 pub mod Pairs
+pub mod Many
