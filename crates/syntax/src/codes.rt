@@ -1,7 +1,10 @@
 // The codes of a run's calls, for what shows their answers.
 ghost use mathlib.Core.Path.{_≡_};
-ghost use lib.ListN.{set};
+ghost use Prim.Native.Nat.{_≤_};
+ghost use lib.ListN.{set, replicate};
 ghost use lib.Seq.{sets};
+ghost use Rattle.walk.specs.Reader.{c-check};
+ghost use Rattle.syntax.specs.Told.{code-number};
 ghost use Rattle.syntax.specs.Codes.{call-codes, Readable};
 use super::calls;
 use super::scan::Scanned;
