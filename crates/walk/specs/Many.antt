@@ -6,17 +6,25 @@ use mathlib.Core.List.{List, [], _∷_, _++_}
 use lib.ListN.{replicate}
 use Rattle.walk.specs.Run.{no-result}
 use Rattle.walk.specs.Examples.{Line, listed, in-slices, gives, refuses, limit-100, no-row, played, stated}
+use Rattle.walk.specs.Written.{write-term, write-terms, write-checks, write-by, write-all, written-by, written-out}
 use Rattle.walk.specs.Opened.{opened}
 
 -- zero at nat, u 0 and nat
 abbrev three-types : List ℕ
 three-types = 6 ∷ 0 ∷ 0 ∷ 4 ∷ 3 ∷ 3 ∷ 1 ∷ 0 ∷ 3 ∷ []
 
+abbrev three-checks : List ℕ
+three-checks = 3 ∷ 0 ∷ 0 ∷ 4 ∷ 3 ∷ 3 ∷ 0 ∷ 0 ∷ 4 ∷ 1 ∷ 0 ∷ 3 ∷ 0 ∷ 0 ∷ 4 ∷ 3 ∷ []
+
+pub written : written-out (limit-100 ++ three-types) ≡ limit-100 ++ three-checks
+unfolding opened written-out written-by write-all write-by write-checks write-terms write-term
+written = refl
+
 abbrev table : List Line
 table =
     listed "zero at nat, u 0 and nat" (limit-100 ++ three-types)
     (gives 4 8 1 ((0, 1, no-result, 3) ∷ (12, no-row, no-result, 4) ∷ (0, 1, no-result, 2) ∷ [])) ∷
-    listed "the same, written out" (limit-100 ++ 3 ∷ 0 ∷ 0 ∷ 4 ∷ 3 ∷ 3 ∷ 0 ∷ 0 ∷ 4 ∷ 1 ∷ 0 ∷ 3 ∷ 0 ∷ 0 ∷ 4 ∷ 3 ∷ [])
+    listed "the same, written out" (limit-100 ++ three-checks)
     (gives 4 8 1 ((0, 1, no-result, 3) ∷ (12, no-row, no-result, 4) ∷ (0, 1, no-result, 2) ∷ [])) ∷
     -- a block repeats a check
     listed "zero at nat, then at one type" (limit-100 ++ 3 ∷ 0 ∷ 0 ∷ 4 ∷ 3 ∷ 6 ∷ 0 ∷ 0 ∷ 4 ∷ 1 ∷ 3 ∷ [])
