@@ -1,12 +1,12 @@
 // The entry: a run of bytes over the three lent slices. A run that is refused as a whole changes nothing; words past the used ones stay.
 ghost use mathlib.Core.Path.{_≡_};
-ghost use Prim.Native.Nat.{_*_};
+ghost use Prim.Native.Nat.{_*_, _-_};
 ghost use lib.Seq.{sets};
 ghost use mathlib.Core.List.{[], _∷_};
 ghost use Rattle.producer.specs.Machine.{machine};
 ghost use lib.ListN.{length};
 ghost use Rattle.run.specs.Contract.{Runs};
-ghost use Rattle.run.specs.Run.{low-of, at-most, started, refused-of, answered-of, turn-end, turned, play-end, played, refused-run, end-run, run-of};
+ghost use Rattle.run.specs.Run.{low-of, at-most, started, refused-of, answered-of, turn-end, turned-alone, turned-draft, turned-many, turned, from-of, play-end, played, refused-run, end-run, run-of};
 use crate::build::byte;
 use crate::call::call;
 use ast::refusals;

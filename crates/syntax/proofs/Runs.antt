@@ -7,14 +7,14 @@ use native.Mathlib.Omega.{arith}
 use native.Mathlib.Nat.{zero-add, suc-add, add-zero}
 use borrow.Author.Tests.{leb-true}
 use lib.Dec.{leb}
-use lib.ListN.{length, drop}
+use lib.ListN.{length, length-append, drop}
 use Rattle.walk.specs.Refusal as Refusal
 use Rattle.walk.specs.Syntax.{Term}
 use Rattle.walk.specs.Reader.{Read, got, bad, read-on, _>>=_, ok, Call, Sent, checks-of, calls-of, all-calls, read-calls, read-limit, read-run}
 use Rattle.syntax.specs.Told.{call-at, next-of, next-in, limit-of, counted, told}
 use Rattle.syntax.specs.Sent.{sent-at, counted-by, counted-as, sent-told, sent-in}
 use Rattle.syntax.specs.Ends.{Stops, ends, goes-call}
-use Rattle.syntax.specs.Calls.{SentAt, SentCase, sent-case, read-more, read-none, Limited, limited}
+use Rattle.syntax.specs.Calls.{SentAt, SentCase, sent-case, many-checks, read-more, read-none, Limited, limited}
 use Rattle.syntax.specs.declared.scan.Next.the-variants.{Past}
 use Rattle.syntax.specs.declared.sent.Sent.the-variants.{One, Many, Bad as NoSent, Short as NoRoom}
 use Rattle.syntax.specs.declared.scan.Limit.the-variants.{Is, Bad as NoLimit}
@@ -51,11 +51,6 @@ pub record PassedMany (bytes : List ℕ) (at p n : ℕ) : Type 0 where
 told-short : (bytes : List ℕ) (at : ℕ) → sent-in true bytes at ≡ NoRoom
 unfolding sent-told next-in
 told-short bytes at = refl
-
-many-checks : (call : Call) (drafts : List Term) → length (checks-of call drafts) ≡ length drafts
-unfolding checks-of
-many-checks call [] = refl
-many-checks call (ty ∷ tys) = ap suc (many-checks call tys)
 
 -- The two ways to count types.
 abbrev pub calls-by : Bool → Sent → List Call
@@ -127,10 +122,6 @@ module _ (bytes : List ℕ) (at : ℕ) where
       go : (r : Read Sent) → SentCase bytes at r → ⊥
       go (got sent rest next) S = over (leb 1 (length (sent .drafts)) && leb (length (sent .drafts)) 16) next (S .first) (length (sent .drafts)) (e ∙ S .tells)
       go (bad place) S = let q = e ∙ S in let z : _≡_ {A = ℕ} 0 1 = cc in omega arith
-
-length-append : {A : Type 0} (xs ys : List A) → length (xs ++ ys) ≡ length xs + length ys
-length-append [] ys = sym (zero-add _)
-length-append (x ∷ xs) ys = ap suc (length-append xs ys) ∙ sym (suc-add (length xs) (length ys))
 
 more : (limit n k : ℕ) (sent : Sent) → length (calls-of sent) ≡ k → (r : Read (List Sent)) → counted limit n (read-on r (λ others bs at. got (sent ∷ others) bs at)) ≡ counted limit (n + k) r
 unfolding counted read-on all-calls

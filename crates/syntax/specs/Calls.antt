@@ -12,7 +12,7 @@ use lib.Dec.{eqb, ltb, leb}
 use lib.ListN.{length, getD, drop, drop-of-length-le}
 use lib.Seq.{drop-cons}
 use Rattle.walk.specs.Syntax.{Term}
-use Rattle.walk.specs.Reader.{Read, got, bad, read-on, _>>=_, ok, byte, Code, c-context, c-universe, c-infer, c-check, c-normalise, c-equal, c-many, codes, terms-of, lists-types, Head, Call, Sent, all-calls, read-terms, read-head, read-call, read-drafts, read-sent, read-calls, read-limit, read-run}
+use Rattle.walk.specs.Reader.{Read, got, bad, read-on, _>>=_, ok, byte, Code, c-context, c-universe, c-infer, c-check, c-normalise, c-equal, c-many, codes, terms-of, lists-types, Head, Call, Sent, checks-of, calls-of, all-calls, read-terms, read-head, read-call, read-drafts, read-sent, read-calls, read-limit, read-run}
 use Rattle.walk.specs.Limits.{Sized, fits, scope-over, size-over, index-over, size-on, size-term, size-terms, size-call}
 use Rattle.syntax.specs.declared.scan.Heading.the-variants.{Is}
 use Rattle.syntax.specs.declared.sent.Sent.{Sent as Sends}
@@ -159,7 +159,9 @@ pub record SentAt (bytes : List ℕ) (at : ℕ) (sent : Sent) (next : ℕ) : Typ
   pub call : CallAt bytes at (sent .call) middle
   pub many : eqb (getD bytes at 0) (code-number c-many) ≡ lists-types (sent .call .code)
   pub none : lists-types (sent .call .code) ≡ false → sent .drafts ≡ []
+  pub alone : lists-types (sent .call .code) ≡ false → middle ≡ next
   pub first : ℕ
+  pub begins : first ≤ length bytes
   pub drafts : TermsAt bytes first (sent .drafts) next
   pub inside : next ≤ length bytes
   pub far : at + 3 + length (sent .drafts) ≤ next
@@ -200,7 +202,9 @@ module _ (bytes : List ℕ) (at : ℕ) (call : Call) (middle : ℕ) (C : CallAt 
     call = C;
     many = code-byte;
     none = λ _. refl;
+    alone = λ _. refl;
     first = middle;
+    begins = C .inside;
     drafts = no-terms;
     inside = C .inside;
     far = omega (arith, C .far);
@@ -218,7 +222,9 @@ module _ (bytes : List ℕ) (at : ℕ) (call : Call) (middle : ℕ) (C : CallAt 
         call = C;
         many = code-byte;
         none = λ z. absurd (true-false (sym e ∙ z));
+        alone = λ z. absurd (true-false (sym e ∙ z));
         first = middle + 1;
+        begins = omega arith;
         drafts = A .all;
         inside = terms-inside (A .all) (omega arith);
         far = omega (arith, C .far);
@@ -273,6 +279,20 @@ sent-case bytes at = go (call-at bytes at) refl
         let q = sent-read bytes at call middle (C .reads) in
         subst (SentCase bytes at) (sym q) (drafts-case bytes at call middle C (lists-types (call .code)) refl q)
     go (bad place) e = subst (SentCase bytes at) (sym (sent-unread bytes at place e)) (unread-told bytes at place e)
+
+-- They are no more than the bytes that they take.
+pub many-checks : (call : Call) (drafts : List Term) → length (checks-of call drafts) ≡ length drafts
+unfolding checks-of
+many-checks call [] = refl
+many-checks call (ty ∷ tys) = ap suc (many-checks call tys)
+
+pub few-calls : (bytes : List ℕ) (at : ℕ) (sent : Sent) (next : ℕ) → SentAt bytes at sent next → at + length (calls-of sent) ≤ next
+unfolding calls-of
+few-calls bytes at sent next S = go (leb 1 (length (sent .drafts)) && leb (length (sent .drafts)) 16)
+  where
+    go : (b : Bool) → at + length {A = Call} (elim b as (λ _. List Call) [ true ↦ checks-of (sent .call) (sent .drafts) | false ↦ sent .call ∷ [] ]) ≤ next
+    go true = omega (arith, S .far, many-checks (sent .call) (sent .drafts))
+    go false = omega (arith, S .far)
 
 pub sent-is : (bytes : List ℕ) (at : ℕ) {sent : Sent} {rest : List ℕ} {next : ℕ} → sent-at bytes at ≡ got sent rest next → SentAt bytes at sent next
 sent-is bytes at e = subst (SentCase bytes at) e (sent-case bytes at)
