@@ -1,12 +1,13 @@
 // The entry: a run of bytes over the three lent slices. A run that is refused as a whole changes nothing; words past the used ones stay.
 ghost use mathlib.Core.Path.{_≡_};
-ghost use Prim.Native.Nat.{_*_};
+ghost use Prim.Native.Nat.{_*_, _-_};
 ghost use lib.Seq.{sets};
 ghost use mathlib.Core.List.{[], _∷_};
 ghost use Rattle.producer.specs.Machine.{machine};
 ghost use lib.ListN.{length};
 ghost use Rattle.run.specs.Contract.{Runs};
-ghost use Rattle.run.specs.Run.{low-of, at-most, started, refused-of, answered-of, turn-end, turned, play-end, played, refused-run, end-run, run-of};
+ghost use Rattle.run.specs.Run.{low-of, at-most, started, refused-of, answered-of, turn-end, turned-alone, turned-draft, turned-many, turned, from-of, play-end, played, refused-run, end-run, run-of};
+use crate::build::byte;
 use crate::call::call;
 use ast::refusals;
 use ast::words::put;
@@ -15,14 +16,22 @@ use producer::State;
 use producer::answers::Two;
 use ran::Ran;
 use syntax::Scanned;
+use syntax::Sent;
 use syntax::Size;
+use syntax::calls;
 use syntax::scan_run;
+use syntax::sent_at;
 use syntax::size_call;
+use syntax::size_draft;
 
 // The row of a refused call.
 const NO_ROW: u32 = 4294967295;
 
-// What a call leaves: the counts, its answer, and where the next one starts.
+// The code of a call with many types, as a byte is read.
+const MANY: u32 = calls::MANY as u32;
+
+// What a call leaves: the counts, its answer, and the offset past it: of the next type, where some more of a call with many types are to
+// be checked, else of the next call.
 pub struct Turn {
     pub state: State,
     pub number: u32,
@@ -30,6 +39,7 @@ pub struct Turn {
     pub result: u32,
     pub deepest: u32,
     pub next: usize,
+    pub more: usize,
 }
 
 // The low 32 bits.
@@ -57,8 +67,8 @@ fn start(limit: usize, rows: usize, cells: usize) -> State
 }
 
 // A call that is refused before the walk.
-fn refused(state: State, number: u32, next: usize) -> Turn
-    ensures { λ r. ⌜ r ≡ refused-of state number next ⌝ }
+fn refused(state: State, number: u32, next: usize, more: usize) -> Turn
+    ensures { λ r. ⌜ r ≡ refused-of state number next more ⌝ }
 {
     Turn {
         state,
@@ -67,12 +77,13 @@ fn refused(state: State, number: u32, next: usize) -> Turn
         result: 0,
         deepest: 0,
         next,
+        more,
     }
 }
 
 // A call that was walked.
-fn answered(q: Two, next: usize) -> Turn
-    ensures { λ r. ⌜ r ≡ answered-of q next ⌝ }
+fn answered(q: Two, next: usize, more: usize) -> Turn
+    ensures { λ r. ⌜ r ≡ answered-of q next more ⌝ }
 {
     match q {
         Two::Pair(s, row, result) => Turn {
@@ -82,6 +93,7 @@ fn answered(q: Two, next: usize) -> Turn
             result,
             deepest: s.deepest,
             next,
+            more,
         },
         Two::Refused(s, e) => Turn {
             state: s,
@@ -90,12 +102,13 @@ fn answered(q: Two, next: usize) -> Turn
             result: 0,
             deepest: s.deepest,
             next,
+            more,
         },
     }
 }
 
-// The call at `at`: its limits first. In a run that was read, no size is bad or short.
-fn step(
+// A call by itself at `at`: its limits first. In a run that was read, no size is bad or short.
+fn alone(
     state: State,
     bytes: &[u8],
     at: usize,
@@ -103,20 +116,114 @@ fn step(
     rows: &mut [u32],
     cells: &mut [u32],
 ) -> Turn
-    ensures { λ r. ⌜ turn-end r (now (rows .exit)) (now (cells .exit)) ≡ turned (length (now (stack .entry))) (now (bytes .entry)) at (machine (now (rows .entry)) (now (cells .entry)) state) ⌝ }
+    ensures { λ r. ⌜ turn-end r (now (rows .exit)) (now (cells .exit)) ≡ turned-alone (length (now (stack .entry))) (now (bytes .entry)) at (machine (now (rows .entry)) (now (cells .entry)) state) ⌝ }
 {
     let size = size_call(bytes, at, stack);
     match size {
         Size::Fits(head, _, next) => {
             let s = state.begin();
             let from = low(at);
-            let q = call(s, bytes, from, head, rows, cells);
-            answered(q, next)
+            let q = call(s, bytes, from, from, head, rows, cells);
+            answered(q, next, 0)
         }
-        Size::Refused(number, next) => refused(state, number, next),
-        Size::Bad(place) => refused(state, refusals::UNREAD, place),
-        Size::Short => refused(state, refusals::UNREAD, at),
+        Size::Refused(number, next) => refused(state, number, next, 0),
+        Size::Bad(place) => refused(state, refusals::UNREAD, place, 0),
+        Size::Short => refused(state, refusals::UNREAD, at, 0),
     }
+}
+
+// The check at the type at `ty`, of the call with many types at `at`; `more` are to be checked after it.
+fn draft(
+    state: State,
+    bytes: &[u8],
+    at: usize,
+    ty: usize,
+    more: usize,
+    stack: &mut [u8],
+    rows: &mut [u32],
+    cells: &mut [u32],
+) -> Turn
+    ensures { λ r. ⌜ turn-end r (now (rows .exit)) (now (cells .exit)) ≡ turned-draft (length (now (stack .entry))) (now (bytes .entry)) at ty more (machine (now (rows .entry)) (now (cells .entry)) state) ⌝ }
+{
+    let size = size_draft(bytes, at, ty, stack);
+    match size {
+        Size::Fits(head, _, next) => {
+            let s = state.begin();
+            let from = low(at);
+            let type_at = low(ty);
+            let q = call(s, bytes, from, type_at, head, rows, cells);
+            answered(q, next, more)
+        }
+        Size::Refused(number, next) => refused(state, number, next, more),
+        Size::Bad(place) => refused(state, refusals::UNREAD, place, more),
+        Size::Short => refused(state, refusals::UNREAD, at, more),
+    }
+}
+
+// The first check of the call with many types at `at`, or the refusal of its count.
+fn many(
+    state: State,
+    bytes: &[u8],
+    at: usize,
+    stack: &mut [u8],
+    rows: &mut [u32],
+    cells: &mut [u32],
+) -> Turn
+    ensures { λ r. ⌜ turn-end r (now (rows .exit)) (now (cells .exit)) ≡ turned-many (length (now (stack .entry))) (now (bytes .entry)) at (machine (now (rows .entry)) (now (cells .entry)) state) ⌝ }
+{
+    let sent = sent_at(bytes, at, stack);
+    match sent {
+        Sent::One(next) => refused(state, refusals::COUNT, next, 0),
+        Sent::Many(_, first, count) => draft(
+            state,
+            bytes,
+            at,
+            first,
+            less(count),
+            stack,
+            rows,
+            cells,
+        ),
+        Sent::Bad(place) => refused(state, refusals::UNREAD, place, 0),
+        Sent::Short => refused(state, refusals::UNREAD, at, 0),
+    }
+}
+
+// One less, and 0 of 0.
+fn less(n: usize) -> usize
+    ensures { λ r. ⌜ r ≡ n - 1 ⌝ }
+{
+    if n == 0 { 0 } else { n - 1 }
+}
+
+// The next call: `more` types of the one at `at` are to be checked, the first of them at `ty`; where there are none, a call starts at `at`.
+fn step(
+    state: State,
+    bytes: &[u8],
+    at: usize,
+    ty: usize,
+    more: usize,
+    stack: &mut [u8],
+    rows: &mut [u32],
+    cells: &mut [u32],
+) -> Turn
+    ensures { λ r. ⌜ turn-end r (now (rows .exit)) (now (cells .exit)) ≡ turned (length (now (stack .entry))) (now (bytes .entry)) at ty more (machine (now (rows .entry)) (now (cells .entry)) state) ⌝ }
+{
+    if 0 < more {
+        return draft(state, bytes, at, ty, more - 1, stack, rows, cells);
+    }
+    let code = byte(bytes, low(at));
+    if code == MANY {
+        return many(state, bytes, at, stack, rows, cells);
+    }
+    alone(state, bytes, at, stack, rows, cells)
+}
+
+// Where the call starts that is played next.
+fn call_from(at: usize, next: usize, more: usize) -> usize
+    ensures { λ r. ⌜ r ≡ from-of at next more ⌝ }
+{
+    if more == 0 { next } else { at }
 }
 
 // Stores the four words of answer `i`.
@@ -140,17 +247,21 @@ fn play(
     cells: &mut [u32],
     answers: &mut [u32],
 ) -> State
-    ensures { λ r. ⌜ play-end r (now (rows .exit)) (now (cells .exit)) (now (answers .exit)) ≡ played calls (length (now (stack .entry))) (now (bytes .entry)) 2 0 (machine (now (rows .entry)) (now (cells .entry)) state) (now (answers .entry)) ⌝ }
+    ensures { λ r. ⌜ play-end r (now (rows .exit)) (now (cells .exit)) (now (answers .exit)) ≡ played calls (length (now (stack .entry))) (now (bytes .entry)) 2 2 0 0 (machine (now (rows .entry)) (now (cells .entry)) state) (now (answers .entry)) ⌝ }
 {
     let mut s = state;
     let mut at: usize = 2;
+    let mut ty: usize = 2;
+    let mut more: usize = 0;
     let mut done: u32 = 0;
     let mut left = calls;
     while 0 < left {
-        let t = step(s, bytes, at, stack, rows, cells);
+        let t = step(s, bytes, at, ty, more, stack, rows, cells);
         put_answer(answers, done, t.number, t.row, t.result, t.deepest);
         s = t.state;
-        at = t.next;
+        at = call_from(at, t.next, t.more);
+        ty = t.next;
+        more = t.more;
         done = succ(done);
         left = left - 1;
     }

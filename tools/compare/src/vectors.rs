@@ -43,6 +43,8 @@ pub fn write(seed: u64, folder: &Path) -> Result<String> {
     by_chance(&mut sides, Terms::Plain, seed, &mut chosen);
     chosen.append(&mut by_hand(&mut sides, Terms::Pairs));
     by_chance(&mut sides, Terms::Pairs, seed, &mut chosen);
+    chosen.append(&mut by_hand(&mut sides, Terms::Many));
+    by_chance(&mut sides, Terms::Many, seed, &mut chosen);
     let mut tally = Tally::default();
     let mut file = Vec::new();
     let mut said = String::new();
@@ -101,9 +103,13 @@ fn vector(sides: &mut Sides, name: String, mut case: Case) -> Option<Vector> {
     Some(Vector { name, case, ran, text })
 }
 
-/// The name of a stored run: with pairs it says so.
+/// The name of a stored run: with pairs, or many types, it says so.
 fn named(terms: Terms, name: String) -> String {
-    if terms == Terms::Pairs { format!("pairs {name}") } else { name }
+    match terms {
+        Terms::Plain => name,
+        Terms::Pairs => format!("pairs {name}"),
+        Terms::Many => format!("many {name}"),
+    }
 }
 
 /// Those of the generator that are written by hand; of plain terms also the
