@@ -13,3 +13,4 @@ pub mod Spot
 pub mod Counts
 pub mod Theorem
 pub mod Call
+pub mod Written

@@ -10,8 +10,8 @@ use Rattle.walk.specs.Syntax.{Term}
 use Rattle.walk.specs.Reader.{Read, got, bad, Reader, read-on, _>>=_, ok, Code, c-context, c-universe, c-infer, c-check, c-normalise, c-equal, c-many, terms-of, lists-types, byte, read-term, read-terms, read-head, Call, read-call, Sent, read-drafts, read-sent, checks-of, calls-of, all-calls, read-calls, read-limit, read-run}
 
 -- whatever m reads, Q holds of it
-record Reads {A : Type 0} (m : Reader A) (Q : A → Type 0) : Type 0 where
-  holds : (bs : List ℕ) (at : ℕ) (a : A) (rest : List ℕ) (end : ℕ) → m bs at ≡ got a rest end → Q a
+pub record Reads {A : Type 0} (m : Reader A) (Q : A → Type 0) : Type 0 where
+  pub holds : (bs : List ℕ) (at : ℕ) (a : A) (rest : List ℕ) (end : ℕ) → m bs at ≡ got a rest end → Q a
 
 anything : {A : Type 0} (m : Reader A) → Reads m (λ _. Unit {0})
 anything m = record { holds = λ _ _ _ _ _ _. tt }
@@ -71,7 +71,7 @@ pub data All-well : List Sent → Type 0 where
   none-well : All-well []
   well-on : {sent : Sent} {others : List Sent} → Well sent → All-well others → All-well (sent ∷ others)
 
-calls-well : (f m : ℕ) → Reads (read-calls f m) All-well
+pub calls-well : (f m : ℕ) → Reads (read-calls f m) All-well
 unfolding read-calls read-on
 calls-well f ℕ.zero = record { holds = go }
   where
