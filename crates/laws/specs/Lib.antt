@@ -1,5 +1,5 @@
 -- The laws of substitution: stated in Laws, of the functions in Transforms; of the walk's calls, by Results; and of the program's, by Program,
--- Stores and Inside.
+-- on the store of any run, by Stores and Runs, and inside a run, by Inside.
 pub mod Indices
 pub mod Transforms
 pub mod Squares

@@ -1,7 +1,7 @@
 -- The laws on the store of any run, of cells: calls of `transform` and `itransform` one after the other, each over the words that the one
 -- before left, with nothing asked of states or numbers but that places are at most 65,535. Equal terms have one cell, so what a law says to
 -- be equal is the same cell.
-use Prim.Native.Nat.{ℕ, suc, _+_, _≤_, _<_}
+use Prim.Native.Nat.{ℕ, suc, _+_, _≤_, _<_, zero-le}
 use mathlib.Core.Path.{_≡_, ap}
 use mathlib.Core.List.{List, _++_}
 use native.Mathlib.Omega.{arith}
@@ -95,42 +95,116 @@ pub record Cell-laws {w : Machine} (store : Store w) : Type 0 where
       IDoes w₄ r (I.ISubst k s) r′ w₅ → IDoes w₅ u₁ (I.ISubst 0 r′) u₂ w₆ →
       q₂ ≡ u₂
 
--- one call after another
-
--- what a call leaves: the cell n, that stands for x, and cells that were there
-record Next (o : Before) (xs : List Thing) (w : Machine) (n : ℕ) (x : Thing) : Type 0 where
-  s : State
-  extends : Extends xs (s .cells)
-  holds : Holds o w s
-  stands : Cell n x (s .cells)
-
-record Gets (o : Before) (xs : List Thing) (w : Machine) (n : ℕ) (t : Term) (most : ℕ) : Type 0 where
-  next : Next o xs w n (term t)
-  small : term-top t ≤ most
-
-record IGets (o : Before) (xs : List Thing) (w : Machine) (n : ℕ) (r : Interval) (most : ℕ) : Type 0 where
-  next : Next o xs w n (interval r)
-  small : interval-top r ≤ most
+-- One call after another. What a call leaves is handed on: a state that has the cells that were there, the cell that it gives, and that no
+-- number of it is more than 4,096 above those that went in.
 
 module _ {o : Before} {w w′ : Machine} {s : State} {n n′ : ℕ} (h : Holds o w s) (most : ℕ) (room : most + 4096 < word) where
-  gets :
-      {t : Term} {op : Op} {words : Op-words} →
+  step :
+      {C : Type 0} {t : Term} {op : Op} {words : Op-words} →
       Cell n (term t) (s .cells) → Ops (s .cells) words op → call-top t op ≤ most → Does w n words n′ w′ →
-      Gets o (s .cells) w′ n′ (transform op t) (most + 4096)
-  gets {t} {op} c p l d =
+      ((s′ : State) → Extends (s .cells) (s′ .cells) → Holds o w′ s′ → Cell n′ (term (transform op t)) (s′ .cells) →
+      term-top (transform op t) ≤ most + 4096 → C) → C
+  step {t = t} {op = op} c p l d go =
       let low = d .low in
       let x = transform-walked h (d .left) c p (omega arith) (d .call) in
       let e = rw (x .is-done) at (results (d .left) .transform t op tt .gives s) in
       let m = rw (x .is-done) at (results (d .left) .transform t op tt .small s) in
-      record { next = record { s = x .to; extends = x .extends; holds = x .holds; stands = rw (← e) (x .stands) }; small = rw (← e) (omega arith) }
+      go (x .to) (x .extends) (x .holds) (rw (← e) (x .stands)) (rw (← e) (omega arith))
 
-  igets :
-      {r : Interval} {op : IOp} {words : IOp-words} →
+  istep :
+      {C : Type 0} {r : Interval} {op : IOp} {words : IOp-words} →
       Cell n (interval r) (s .cells) → IOps (s .cells) words op → icall-top r op ≤ most → IDoes w n words n′ w′ →
-      IGets o (s .cells) w′ n′ (itransform op r) (most + 4096)
-  igets {r} {op} c p l d =
+      ((s′ : State) → Extends (s .cells) (s′ .cells) → Holds o w′ s′ → Cell n′ (interval (itransform op r)) (s′ .cells) →
+      interval-top (itransform op r) ≤ most + 4096 → C) → C
+  istep {r = r} {op = op} c p l d go =
       let low = d .low in
       let x = itransform-walked h (d .left) c p (omega arith) (d .call) in
       let e = rw (x .is-done) at (results (d .left) .itransform r op tt .gives s) in
       let m = rw (x .is-done) at (results (d .left) .itransform r op tt .small s) in
-      record { next = record { s = x .to; extends = x .extends; holds = x .holds; stands = rw (← e) (x .stands) }; small = rw (← e) (omega arith) }
+      go (x .to) (x .extends) (x .holds) (rw (← e) (x .stands)) (rw (← e) (omega arith))
+
+-- equal terms have one cell
+one-cell : {n m : ℕ} {x y : Thing} {xs : List Thing} → x ≡ y → Cell n x xs → Cell m y xs → n ≡ m
+one-cell e c d = cell-number (rw e at c) d
+
+module _ {w : Machine} (store : Store w) where
+  top : {n : ℕ} (c : Term-cell store n) → term-top (c .of) ≤ 65535
+  top c = small-cell (store .small) (c .stands)
+
+  itop : {n : ℕ} (c : Interval-cell store n) → interval-top (c .of) ≤ 65535
+  itop c = small-cell (store .small) (c .stands)
+
+  pub store-laws : Cell-laws store
+  store-laws = record {
+    shift-subst = λ {k = k} l t a d₁ d₂.
+        let l₁ = top t in let l₂ = top a in
+        step (store .holds) 65535 (omega arith) (t .stands) o-shift (omega arith) d₁ λ s₁ e₁ h₁ c₁ m₁.
+        step h₁ 69631 (omega arith) c₁ (o-subst (cell-lift e₁ (a .stands))) (omega arith) d₂ λ s₂ e₂ h₂ c₂ m₂.
+        one-cell (ap term (S.subst-shift k (a .of) (t .of))) c₂ (cell-lift (extends-trans e₁ e₂) (t .stands));
+    subst-subst = λ {k = k} l t a b d₁ d₂ d₃ d₄ d₅ d₆.
+        let l₁ = top t in let l₂ = top a in let l₃ = top b in
+        step (store .holds) 65535 (omega arith) (t .stands) (o-subst (a .stands)) (omega arith) d₁ λ s₁ e₁ h₁ c₁ m₁.
+        step h₁ 69631 (omega arith) c₁ (o-subst (cell-lift e₁ (b .stands))) (omega arith) d₂ λ s₂ e₂ h₂ c₂ m₂.
+        let f₂ = extends-trans e₁ e₂ in
+        step h₂ 65535 (omega arith) (cell-lift f₂ (b .stands)) o-shift (omega arith) d₃ λ s₃ e₃ h₃ c₃ m₃.
+        let f₃ = extends-trans f₂ e₃ in
+        step h₃ 69631 (omega arith) (cell-lift f₃ (t .stands)) (o-subst c₃) (omega arith) d₄ λ s₄ e₄ h₄ c₄ m₄.
+        let f₄ = extends-trans f₃ e₄ in
+        step h₄ 65535 (omega arith) (cell-lift f₄ (a .stands)) (o-subst (cell-lift f₄ (b .stands))) (omega arith) d₅ λ s₅ e₅ h₅ c₅ m₅.
+        step h₅ 73727 (omega arith) (cell-lift e₅ c₄) (o-subst c₅) (omega arith) d₆ λ s₆ e₆ h₆ c₆ m₆.
+        let later = extends-trans e₃ (extends-trans e₄ (extends-trans e₅ e₆)) in
+        one-cell (ap term (S.subst-subst 0 k zero-le (a .of) (b .of) (t .of))) (cell-lift later c₂) c₆;
+    subst-dsubst = λ {j = j} {k = k} i l t a s d₁ d₂ d₃ d₄ d₅.
+        let l₁ = top t in let l₂ = top a in let l₃ = itop s in
+        step (store .holds) 65535 (omega arith) (t .stands) (o-subst (a .stands)) (omega arith) d₁ λ s₁ e₁ h₁ c₁ m₁.
+        step h₁ 69631 (omega arith) c₁ (o-dsubst (cell-lift e₁ (s .stands))) (omega arith) d₂ λ s₂ e₂ h₂ c₂ m₂.
+        let f₂ = extends-trans e₁ e₂ in
+        step h₂ 65535 (omega arith) (cell-lift f₂ (t .stands)) (o-dsubst (cell-lift f₂ (s .stands))) (omega arith) d₃ λ s₃ e₃ h₃ c₃ m₃.
+        let f₃ = extends-trans f₂ e₃ in
+        step h₃ 65535 (omega arith) (cell-lift f₃ (a .stands)) (o-dsubst (cell-lift f₃ (s .stands))) (omega arith) d₄ λ s₄ e₄ h₄ c₄ m₄.
+        step h₄ 69631 (omega arith) (cell-lift e₄ c₃) (o-subst c₄) (omega arith) d₅ λ s₅ e₅ h₅ c₅ m₅.
+        one-cell (ap term (S.dsubst-subst j k (s .of) (a .of) (t .of))) (cell-lift (extends-trans e₃ (extends-trans e₄ e₅)) c₂) c₅;
+    dshift-dsubst = λ {k = k} l t s d₁ d₂.
+        let l₁ = top t in let l₂ = itop s in
+        step (store .holds) 65535 (omega arith) (t .stands) o-dshift (omega arith) d₁ λ s₁ e₁ h₁ c₁ m₁.
+        step h₁ 69631 (omega arith) c₁ (o-dsubst (cell-lift e₁ (s .stands))) (omega arith) d₂ λ s₂ e₂ h₂ c₂ m₂.
+        one-cell (ap term (S.dsubst-dshift k (s .of) (t .of))) c₂ (cell-lift (extends-trans e₁ e₂) (t .stands));
+    dsubst-dsubst = λ {k = k} l t r s d₁ d₂ d₃ d₄ d₅ d₆.
+        let l₁ = top t in let l₂ = itop r in let l₃ = itop s in
+        step (store .holds) 65535 (omega arith) (t .stands) (o-dsubst (r .stands)) (omega arith) d₁ λ s₁ e₁ h₁ c₁ m₁.
+        step h₁ 69631 (omega arith) c₁ (o-dsubst (cell-lift e₁ (s .stands))) (omega arith) d₂ λ s₂ e₂ h₂ c₂ m₂.
+        let f₂ = extends-trans e₁ e₂ in
+        istep h₂ 65535 (omega arith) (cell-lift f₂ (s .stands)) i-shift (omega arith) d₃ λ s₃ e₃ h₃ c₃ m₃.
+        let f₃ = extends-trans f₂ e₃ in
+        step h₃ 69631 (omega arith) (cell-lift f₃ (t .stands)) (o-dsubst c₃) (omega arith) d₄ λ s₄ e₄ h₄ c₄ m₄.
+        let f₄ = extends-trans f₃ e₄ in
+        istep h₄ 65535 (omega arith) (cell-lift f₄ (r .stands)) (i-subst (cell-lift f₄ (s .stands))) (omega arith) d₅ λ s₅ e₅ h₅ c₅ m₅.
+        step h₅ 73727 (omega arith) (cell-lift e₅ c₄) (o-dsubst c₅) (omega arith) d₆ λ s₆ e₆ h₆ c₆ m₆.
+        let later = extends-trans e₃ (extends-trans e₄ (extends-trans e₅ e₆)) in
+        one-cell (ap term (S.dsubst-dsubst 0 k zero-le (r .of) (s .of) (t .of))) (cell-lift later c₂) c₆;
+    ishift-isubst = λ {k = k} l q s d₁ d₂.
+        let l₁ = itop q in let l₂ = itop s in
+        istep (store .holds) 65535 (omega arith) (q .stands) i-shift (omega arith) d₁ λ s₁ e₁ h₁ c₁ m₁.
+        istep h₁ 69631 (omega arith) c₁ (i-subst (cell-lift e₁ (s .stands))) (omega arith) d₂ λ s₂ e₂ h₂ c₂ m₂.
+        one-cell (ap interval (S.isubst-ishift k (s .of) (q .of))) c₂ (cell-lift (extends-trans e₁ e₂) (q .stands));
+    isubst-isubst = λ {k = k} l q r s d₁ d₂ d₃ d₄ d₅ d₆.
+        let l₁ = itop q in let l₂ = itop r in let l₃ = itop s in
+        istep (store .holds) 65535 (omega arith) (q .stands) (i-subst (r .stands)) (omega arith) d₁ λ s₁ e₁ h₁ c₁ m₁.
+        istep h₁ 69631 (omega arith) c₁ (i-subst (cell-lift e₁ (s .stands))) (omega arith) d₂ λ s₂ e₂ h₂ c₂ m₂.
+        let f₂ = extends-trans e₁ e₂ in
+        istep h₂ 65535 (omega arith) (cell-lift f₂ (s .stands)) i-shift (omega arith) d₃ λ s₃ e₃ h₃ c₃ m₃.
+        let f₃ = extends-trans f₂ e₃ in
+        istep h₃ 69631 (omega arith) (cell-lift f₃ (q .stands)) (i-subst c₃) (omega arith) d₄ λ s₄ e₄ h₄ c₄ m₄.
+        let f₄ = extends-trans f₃ e₄ in
+        istep h₄ 65535 (omega arith) (cell-lift f₄ (r .stands)) (i-subst (cell-lift f₄ (s .stands))) (omega arith) d₅ λ s₅ e₅ h₅ c₅ m₅.
+        istep h₅ 73727 (omega arith) (cell-lift e₅ c₄) (i-subst c₅) (omega arith) d₆ λ s₆ e₆ h₆ c₆ m₆.
+        let later = extends-trans e₃ (extends-trans e₄ (extends-trans e₅ e₆)) in
+        one-cell (ap interval (S.isubst-isubst 0 k zero-le (r .of) (s .of) (q .of))) (cell-lift later c₂) c₆;
+  }
+
+-- for all bytes and all slices: from what any of a run's calls leave
+pub run-laws :
+    (rows cells answers bytes : List ℕ) (first others : List Call) →
+    let ran = run (length rows) (length cells) (length answers) bytes in
+    (e : ran .calls ≡ first ++ others) → Cell-laws (run-store rows cells answers bytes first others e)
+run-laws rows cells answers bytes first others e = store-laws (run-store rows cells answers bytes first others e)
