@@ -125,16 +125,18 @@ def main():
             with open(path) as f:
                 vectors = [json.loads(line) for line in f]
             out = subprocess.run([command], input=batch(vectors), stdout=subprocess.PIPE, check=True).stdout
-            words, at, differ = struct.unpack('<%dI' % (len(out) // 4), out), 0, 0
+            words = struct.unpack('<%dI' % (len(out) // 4), out)
+            at, rows, differ = 0, 0, 0
             for i, vector in enumerate(vectors):
                 left = Left(words, at)
                 at = left.end
+                rows += len(left.rows)
                 found = list(differences(vector, left))
                 differ += bool(found)
                 for what in found:
                     print('%s, line %d: %s' % (path, i + 1, what))
             bad += differ
-            print('%s: %d runs, %d rows, %d differ' % (path, len(vectors), sum(1 for v in vectors for l in v['listing'].splitlines() if l[:1].isdigit()), differ))
+            print('%s: %d runs, %d rows, %d differ' % (path, len(vectors), rows, differ))
     sys.exit(1 if bad else 0)
 
 
