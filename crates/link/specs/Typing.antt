@@ -21,7 +21,7 @@ use Rattle.link.specs.Things.{Cell, cell-lift}
 use Rattle.link.specs.Tables.{j-has, j-eq}
 use Rattle.link.specs.Holds.{Before, equal}
 use Rattle.link.specs.Match.{Matches, bind, giving, stopping, opening, branch, lowest-of-cell, the-term, the-context, _with_, having, Same, Cites, cite-1, cite-2, cite-3, cite-4, cite-6, cite-7, cite-10, emitting, Pairs, Returns, recalling, remembering, converting, preceding, following, regrouped, given, calling}
-use Rattle.walk.specs.Reader.{Kind, k-u, k-pi, k-path, k-sigma}
+use Rattle.walk.specs.Reader.{Kind, k-pi, k-path, k-sigma}
 use Rattle.walk.specs.Bytes.{kind-byte}
 use Rattle.link.specs.Open.{opening-term, tested, at-universe, at-pi, at-path, at-sigma, same-quote}
 use Rattle.link.specs.Linked.{Linked, o-subst, o-dsubst, Alike, row-then, pair-then, number-then, bumping, larger-is, making-universe, making-nat, making-pi, making-path, making-fst, making-i0, making-i1, making-cons}
@@ -110,6 +110,15 @@ module _ {o : Before} {rd : M (Unit {0})} (c : Callees) (d : D.Callees) (L : Lin
       row-then (emitting-has _ n cite-3 (cell-lift f g) (cell-lift f t) (cell-lift e₃ normal)) λ _ _ e₄.
       giving _ _ λ _ f. record { left = cell-lift (extends-trans e₃ (extends-trans e₄ f)) normal; right = refl })
 
+  pub universe-matches : {xs : List Thing} {g t : ℕ} {g′ : Context} {t′ : Term} (n : ℕ) → Cell g (context g′) xs → Cell t (term t′) xs → Matches o xs (P.universe-body c n g t) (B.universe-body d n g′ t′) (Pairs Alike)
+  unfolding P.universe-body P.exposed B.universe-body
+  universe-matches n g t =
+      pair-then _ _ (L .infer n g t) λ _ row _ _ e₁ ty.
+      at-universe _ _ ty
+      (λ l _. giving _ _ λ _ _. record { left = refl; right = refl })
+      (converting (pair-then _ _ (L .expose n (cell-lift e₁ g) (cell-lift e₁ t) ty row) λ _ _ _ _ _ normal.
+      at-universe _ _ normal (λ l _. giving _ _ λ _ _. record { left = refl; right = refl }) (stopping _)))
+
   pub check-matches : {xs : List Thing} {g t y : ℕ} {g′ : Context} {t′ y′ : Term} (n : ℕ) → Cell g (context g′) xs → Cell t (term t′) xs → Cell y (term y′) xs → Matches o xs (P.check-body c n g t y) (B.check-body d n g′ t′ y′) Same
   unfolding P.check-body P.converted B.check-body
   check-matches n g t y =
@@ -134,10 +143,6 @@ module _ {o : Before} {rd : M (Unit {0})} (c : Callees) (d : D.Callees) (L : Lin
       branch _ _ (tested k s)
       (λ _. giving _ _ λ _ f. record { left = cell-lift f ty; right = refl })
       (λ _. converting (L .expose n (cell-lift e₁ g) (cell-lift e₁ t) ty row))
-
-  pub universe-matches : {xs : List Thing} {g t : ℕ} {g′ : Context} {t′ : Term} (n : ℕ) → Cell g (context g′) xs → Cell t (term t′) xs → Matches o xs (P.universe-body c n g t) (B.universe-body d n g′ t′) (Pairs Alike)
-  unfolding P.universe-body B.as-parts
-  universe-matches n g t = pair-then _ _ (headed-matches n g t k-u) λ _ _ _ _ _ ty. at-universe _ _ ty (λ l _. giving _ _ λ _ _. record { left = refl; right = refl }) (stopping _)
 
   as-pi-matches : {xs : List Thing} {g t : ℕ} {g′ : Context} {t′ : Term} (n : ℕ) → Cell g (context g′) xs → Cell t (term t′) xs → Matches o xs (P.as-pi c n g t) (B.as-pi d n g′ t′) Three
   unfolding P.as-pi B.as-parts

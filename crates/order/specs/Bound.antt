@@ -646,6 +646,15 @@ module _ (n : ℕ) (c c′ : Callees) (B : Bounds n c c′) where
       (λ _. bind (B .check d g (x₂ .0) (Universe (x₁ .0)) (omega arith)) λ x₃ c₃ e₃ h₃.
       let p = quotes-below g in let q = quote-below t in let r = quote-below (x₂ .0) in bind (emits _ _ _ (omega arith)) λ x₄ c₄ e₄ h₄. giving _ λ c e. omega arith)
 
+  universe-within : {b : ℕ} (d : ℕ) (g : Context) (t : Term) → (d + suc n ≤ 4200) × (context-top g ≤ 32 + b) × (term-top t ≤ 32 + b) → Within b (universe-body c d g t) (universe-body c′ d g t) (λ o b. o .0 ≤ 32 + b)
+  unfolding universe-body
+  universe-within d g t h =
+      bind (B .infer d g t (omega arith)) λ x₁ c₁ e₁ h₁.
+      cases (level (x₁ .0))
+      (λ l q. let p = level-top (x₁ .0) l q in giving _ λ c e. omega arith)
+      (λ _. convert (bind (B .expose d g t (x₁ .0) (x₁ .1) (omega arith)) λ x₂ c₂ e₂ h₂.
+      cases (level (x₂ .0)) (λ l q. let p = level-top (x₂ .0) l q in giving _ λ c e. omega arith) (λ _. refusing (λ z. omega arith))))
+
   check-within : {b : ℕ} (d : ℕ) (g : Context) (t y : Term) → (d + suc n ≤ 4200) × (context-top g ≤ 32 + b) × (term-top t ≤ 32 + b) × (term-top y ≤ 32 + b) → Within b (check-body c d g t y) (check-body c′ d g t y) Nothing
   unfolding check-body
   check-within d g t y h =
@@ -666,9 +675,6 @@ module _ (n : ℕ) (c c′ : Callees) (B : Bounds n c c′) where
   unfolding as-parts
   as-parts-within k parts Small small refusal nonzero d g t h =
       bind (headed-within k d g t h) λ x₁ c₁ e₁ h₁. cases (parts (x₁ .0)) (λ of q. giving _ λ k e. small (x₁ .0) of k q (omega arith)) (λ _. refusing nonzero)
-
-  universe-within : {b : ℕ} (d : ℕ) (g : Context) (t : Term) → (d + suc n ≤ 4200) × (context-top g ≤ 32 + b) × (term-top t ≤ 32 + b) → Within b (universe-body c d g t) (universe-body c′ d g t) (λ o b. o .0 ≤ 32 + b)
-  universe-within = as-parts-within k-u level (λ l b. l ≤ 32 + b) (λ t l k q h. let p = level-top t l q in omega arith) _ (λ z. omega arith)
 
   as-pi-within : {b : ℕ} (d : ℕ) (g : Context) (t : Term) → (d + suc n ≤ 4200) × (context-top g ≤ 32 + b) × (term-top t ≤ 32 + b) → Within b (as-pi c d g t) (as-pi c′ d g t) (λ o b. (term-top (o .0 .0) ≤ 32 + b) × (term-top (o .0 .1) ≤ 32 + b))
   as-pi-within = as-parts-within k-pi pi-parts (λ m b. (term-top (m .0) ≤ 32 + b) × (term-top (m .1) ≤ 32 + b)) (λ t m k q h. let p = pi-top t m q in omega arith) _ (λ z. omega arith)

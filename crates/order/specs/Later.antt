@@ -317,6 +317,10 @@ module _ (c : Callees) (L : All-lead c) where
   unfolding expose-body
   expose-leads d g t ty row = search (combinators, L .universe, L .normalize, L .check) depth 10
 
+  universe-leads : (d : ℕ) (g : Context) (t : Term) → Leads (universe-body c d g t)
+  unfolding universe-body
+  universe-leads d g t = search (combinators, L .infer, L .expose) depth 10
+
   check-leads : (d : ℕ) (g : Context) (t ty : Term) → Leads (check-body c d g t ty)
   unfolding check-body
   check-leads d g t ty = search (combinators, L .infer, L .universe, L .equal) depth 10
@@ -411,7 +415,7 @@ none-lead = search (refuses, gives)
 
 entered-lead : (n : ℕ) (c : Callees) → All-lead c → All-lead (entered n c)
 unfolding entered
-entered-lead n c L = search (L .more, enters, ctx-leads, infer-leads, as-parts-leads, check-leads, expose-leads, normalize-leads, equal-leads, reduce-leads, lookup-leads, dshiftctx-leads, transform-leads, itransform-leads, under-leads, interval-leads, comparison-leads, max-leads)
+entered-lead n c L = search (L .more, enters, ctx-leads, infer-leads, universe-leads, check-leads, expose-leads, normalize-leads, equal-leads, reduce-leads, lookup-leads, dshiftctx-leads, transform-leads, itransform-leads, under-leads, interval-leads, comparison-leads, max-leads)
 
 -- the sixteen functions, with n entries left
 pub leads : (n : ℕ) → All-lead (callees n)

@@ -210,7 +210,8 @@ unfolding as-parts headed none-left counted-first
 as-parts-stops k parts refusal d g t f = stops-then _ _ (stops-then _ _ (stops-here _ _ _ f))
 
 universe-alike : (d : ℕ) (g : Context) (t : Term) → Alike (of-context g ++ of-term t) (universe-body refusing d g t) (universe-body counted-first d g t)
-universe-alike d g t = stopped (as-parts-stops _ _ _ d g t λ cells h. h)
+unfolding universe-body none-left counted-first
+universe-alike d g t = stopped (stops-then _ _ (stops-here _ _ _ λ cells h. h))
 
 check-alike : (d : ℕ) (g : Context) (t ty : Term) → Alike (of-context g ++ of-term t ++ of-term ty) (check-body refusing d g t ty) (check-body counted-first d g t ty)
 unfolding check-body none-left counted-first

@@ -38,6 +38,17 @@ expose-body c d g t ty typed = do
   (normal, equality) ← for-call c (make-universe l) λ u. c .normalize d g ty u
   same-quote normal ty (give (normal, typed)) (retyped c d g t l normal typed equality)
 
+-- the level of a type that has its universe only once exposed
+unfoldable pub exposed : Callees → (d g t ty row : ℕ) → W (ℕ × ℕ)
+exposed c d g t ty row = do
+  (normal, row′) ← c .expose d g t ty row
+  at-universe normal (λ l. give (l, row′)) (stop Refusal.no-type)
+
+unfoldable pub universe-body : Callees → (d g t : ℕ) → W (ℕ × ℕ)
+universe-body c d g t = do
+  (ty, row) ← c .infer d g t
+  at-universe ty (λ l. give (l, row)) (converting (exposed c d g t ty row))
+
 -- a term of the one type has the other too
 unfoldable pub converted : Callees → (d g t actual expected row : ℕ) → W ℕ
 converted c d g t actual expected row = do
@@ -61,11 +72,6 @@ headed c kind d g t = do
   open-cell ty λ w. when eqb (w .kind) kind then give (ty, row) else converting (c .expose d g t ty row)
 
 -- that type taken apart
-
-unfoldable pub universe-body : Callees → (d g t : ℕ) → W (ℕ × ℕ)
-universe-body c d g t = do
-  (ty, row) ← headed c 1 d g t
-  at-universe ty (λ l. give (l, row)) (stop Refusal.no-type)
 
 unfoldable pub as-pi : Callees → (d g f : ℕ) → W (ℕ × ℕ × ℕ)
 as-pi c d g f = do

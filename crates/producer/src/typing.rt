@@ -2,7 +2,7 @@
 // a reference function is entered with one less nesting left, and an arm of one keeps what is left.
 ghost use mathlib.Core.Path.{_≡_};
 ghost use Rattle.producer.specs.Machine.{machine, end, end-2, end-4, end-found};
-ghost use Rattle.producer.specs.Typing.{headed, converted, find-atom, find-var, find-binder, find-lam, find-app, ends, find-path, find-plam, find-papp, find-pair, find-fst, find-snd, find};
+ghost use Rattle.producer.specs.Typing.{exposed, headed, converted, find-atom, find-var, find-binder, find-lam, find-app, ends, find-path, find-plam, find-papp, find-pair, find-fst, find-snd, find};
 ghost use Rattle.producer.specs.Calls.{callees};
 use crate::State;
 use crate::answers::Done;
@@ -158,15 +158,45 @@ impl State {
         }
         let down = left - 1;
         let s0 = self.deeper(down);
-        let q1 = s0.head(down, rows, cells, d, g, t, kinds::UNIVERSE);
+        let q1 = s0.infer(down, rows, cells, d, g, t);
         let Two::Pair(s1, ty, row) = q1 else {
             return q1;
         };
         let shape = shape_of(cells, ty);
-        let Shape::Universe(level) = shape else {
-            return Two::Refused(s1, refusals::NO_TYPE);
+        if let Shape::Universe(level) = shape {
+            return Two::Pair(s1, level, row);
+        }
+        if s1.conversions < 32 {
+            let s2 = s1.converting(s1.conversions + 1);
+            let q2 = s2.sort(down, rows, cells, d, g, t, ty, row);
+            return ended_two(q2);
+        }
+        Two::Refused(s1, refusals::CONVERSIONS)
+    }
+
+    // The level of a type that has its universe only once exposed.
+    pub fn sort(
+        self,
+        left: u32,
+        rows: &mut [u32],
+        cells: &mut [u32],
+        d: u32,
+        g: u32,
+        t: u32,
+        ty: u32,
+        row: u32,
+    ) -> Two
+        ensures { λ r. ⌜ end-2 r (now (rows .exit)) (now (cells .exit)) ≡ exposed (callees left) d g t ty row (machine (now (rows .entry)) (now (cells .entry)) self) ⌝ }
+    {
+        let q = self.expose(left, rows, cells, d, g, t, ty, row);
+        let Two::Pair(s, normal, typed) = q else {
+            return q;
         };
-        Two::Pair(s1, level, row)
+        let shape = shape_of(cells, normal);
+        let Shape::Universe(level) = shape else {
+            return Two::Refused(s, refusals::NO_TYPE);
+        };
+        Two::Pair(s, level, typed)
     }
 
     // The row that the term has the type.

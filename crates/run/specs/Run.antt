@@ -21,6 +21,7 @@ use Rattle.syntax.specs.declared.sent.Sent.the-variants.{One, Many, Bad as NoSe
 use Rattle.syntax.specs.Told.{term-at, call-at, code-number, size-in, size-draft-in, scanned}
 use Rattle.syntax.specs.Sent.{sent-in}
 use Rattle.ran.specs.declared.Ran.{Ran}
+use Rattle.run.specs.declared.entry.Plan.{Plan}
 use Rattle.run.specs.declared.entry.Turn.{Turn}
 use Rattle.run.specs.Build.{byte-at}
 use Rattle.run.specs.Call.{called}
@@ -71,30 +72,29 @@ turned-by Short bytes at ty more w = turn-end (refused-of (w .state) Refusal.unr
 abbrev pub tight : ℕ → List ℕ → Bool
 tight room bytes = ltb room (2 * length bytes + 1)
 
--- the call by itself at an offset, read over a stack of so many bytes
-unfoldable pub turned-alone : ℕ → List ℕ → ℕ → Machine → Told
-turned-alone room bytes at w = turned-by (size-in (tight room bytes) (call-at bytes at)) bytes at at 0 w
+-- A call's limits, read over a stack of so many bytes, with the type that is checked and how many come after it. Of the call with many types
+-- at an offset, the first check, or the refusal of its count.
+unfoldable pub planned-by : Sent → ℕ → List ℕ → ℕ → Plan
+planned-by (One next) room bytes at = record { size = Refused Refusal.count next; ty = at; more = 0 }
+planned-by (Many end first count) room bytes at = record { size = size-draft-in (tight room bytes) (call-at bytes at) (term-at bytes first); ty = first; more = count - 1 }
+planned-by (NoSent place) room bytes at = record { size = Bad place; ty = at; more = 0 }
+planned-by NoRoom room bytes at = record { size = Short; ty = at; more = 0 }
 
--- a check of the call with many types at an offset, at the type at another
-unfoldable pub turned-draft : ℕ → List ℕ → (at ty more : ℕ) → Machine → Told
-turned-draft room bytes at ty more w = turned-by (size-draft-in (tight room bytes) (call-at bytes at) (term-at bytes ty)) bytes at ty more w
-
--- the first check of such a call, or the refusal of its count
-unfoldable pub many-by : Sent → ℕ → List ℕ → ℕ → Machine → Told
-many-by (One next) room bytes at w = turn-end (refused-of (w .state) Refusal.count next 0) (w .rows) (w .cells)
-many-by (Many end first count) room bytes at w = turned-draft room bytes at first (count - 1) w
-many-by (NoSent place) room bytes at w = turn-end (refused-of (w .state) Refusal.unread place 0) (w .rows) (w .cells)
-many-by NoRoom room bytes at w = turn-end (refused-of (w .state) Refusal.unread at 0) (w .rows) (w .cells)
-
-unfoldable pub turned-many : ℕ → List ℕ → ℕ → Machine → Told
-turned-many room bytes at w = many-by (sent-in (tight room bytes) bytes at) room bytes at w
+unfoldable pub planned-many : ℕ → List ℕ → ℕ → Plan
+planned-many room bytes at = planned-by (sent-in (tight room bytes) bytes at) room bytes at
 
 -- the next call: so many types of the one at an offset are still to be checked, or it starts there
+unfoldable pub planned : ℕ → List ℕ → (at ty more : ℕ) → Plan
+planned room bytes at ty more =
+    ifb (ltb 0 more) (record { size = size-draft-in (tight room bytes) (call-at bytes at) (term-at bytes ty); ty = ty; more = more - 1 })
+    (ifb (eqb (byte-at bytes (low-of at)) (code-number c-many)) (planned-many room bytes at)
+    (record { size = size-in (tight room bytes) (call-at bytes at); ty = at; more = 0 }))
+
+abbrev pub turned-as : Plan → List ℕ → ℕ → Machine → Told
+turned-as p bytes at w = turned-by (p .size) bytes at (p .ty) (p .more) w
+
 unfoldable pub turned : ℕ → List ℕ → (at ty more : ℕ) → Machine → Told
-turned room bytes at ty more w =
-    ifb (ltb 0 more) (turned-draft room bytes at ty (more - 1) w)
-    (ifb (eqb (byte-at bytes (low-of at)) (code-number c-many)) (turned-many room bytes at w)
-    (turned-alone room bytes at w))
+turned room bytes at ty more w = turned-as (planned room bytes at ty more) bytes at w
 
 -- where the call starts that is played next
 unfoldable pub from-of : (at next more : ℕ) → ℕ

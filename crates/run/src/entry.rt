@@ -6,7 +6,7 @@ ghost use mathlib.Core.List.{[], _∷_};
 ghost use Rattle.producer.specs.Machine.{machine};
 ghost use lib.ListN.{length};
 ghost use Rattle.run.specs.Contract.{Runs};
-ghost use Rattle.run.specs.Run.{low-of, at-most, started, refused-of, answered-of, turn-end, turned-alone, turned-draft, turned-many, turned, from-of, play-end, played, refused-run, end-run, run-of};
+ghost use Rattle.run.specs.Run.{low-of, at-most, started, refused-of, answered-of, turn-end, planned-many, planned, turned, from-of, play-end, played, refused-run, end-run, run-of};
 use crate::build::byte;
 use crate::call::call;
 use ast::refusals;
@@ -39,6 +39,13 @@ pub struct Turn {
     pub result: u32,
     pub deepest: u32,
     pub next: usize,
+    pub more: usize,
+}
+
+// The limits of a call that is about to be walked; of one with many types, the type that is checked, and how many are to be checked after it.
+pub struct Plan {
+    pub size: Size,
+    pub ty: usize,
     pub more: usize,
 }
 
@@ -107,85 +114,35 @@ fn answered(q: Two, next: usize, more: usize) -> Turn
     }
 }
 
-// A call by itself at `at`: its limits first. In a run that was read, no size is bad or short.
-fn alone(
-    state: State,
-    bytes: &[u8],
-    at: usize,
-    stack: &mut [u8],
-    rows: &mut [u32],
-    cells: &mut [u32],
-) -> Turn
-    ensures { λ r. ⌜ turn-end r (now (rows .exit)) (now (cells .exit)) ≡ turned-alone (length (now (stack .entry))) (now (bytes .entry)) at (machine (now (rows .entry)) (now (cells .entry)) state) ⌝ }
-{
-    let size = size_call(bytes, at, stack);
-    match size {
-        Size::Fits(head, _, next) => {
-            let s = state.begin();
-            let from = low(at);
-            let q = call(s, bytes, from, from, head, rows, cells);
-            answered(q, next, 0)
-        }
-        Size::Refused(number, next) => refused(state, number, next, 0),
-        Size::Bad(place) => refused(state, refusals::UNREAD, place, 0),
-        Size::Short => refused(state, refusals::UNREAD, at, 0),
-    }
-}
-
-// The check at the type at `ty`, of the call with many types at `at`; `more` are to be checked after it.
-fn draft(
-    state: State,
-    bytes: &[u8],
-    at: usize,
-    ty: usize,
-    more: usize,
-    stack: &mut [u8],
-    rows: &mut [u32],
-    cells: &mut [u32],
-) -> Turn
-    ensures { λ r. ⌜ turn-end r (now (rows .exit)) (now (cells .exit)) ≡ turned-draft (length (now (stack .entry))) (now (bytes .entry)) at ty more (machine (now (rows .entry)) (now (cells .entry)) state) ⌝ }
-{
-    let size = size_draft(bytes, at, ty, stack);
-    match size {
-        Size::Fits(head, _, next) => {
-            let s = state.begin();
-            let from = low(at);
-            let type_at = low(ty);
-            let q = call(s, bytes, from, type_at, head, rows, cells);
-            answered(q, next, more)
-        }
-        Size::Refused(number, next) => refused(state, number, next, more),
-        Size::Bad(place) => refused(state, refusals::UNREAD, place, more),
-        Size::Short => refused(state, refusals::UNREAD, at, more),
-    }
-}
-
-// The first check of the call with many types at `at`, or the refusal of its count.
-fn many(
-    state: State,
-    bytes: &[u8],
-    at: usize,
-    stack: &mut [u8],
-    rows: &mut [u32],
-    cells: &mut [u32],
-) -> Turn
-    ensures { λ r. ⌜ turn-end r (now (rows .exit)) (now (cells .exit)) ≡ turned-many (length (now (stack .entry))) (now (bytes .entry)) at (machine (now (rows .entry)) (now (cells .entry)) state) ⌝ }
+// What the call with many types at `at` starts with: its first check, or the refusal of its count.
+fn plan_many(bytes: &[u8], at: usize, stack: &mut [u8]) -> Plan
+    ensures { λ r. ⌜ r ≡ planned-many (length (now (stack .entry))) (now (bytes .entry)) at ⌝ }
 {
     let sent = sent_at(bytes, at, stack);
     match sent {
-        Sent::One(next) => refused(state, refusals::COUNT, next, 0),
-        Sent::Many(_, first, count) => draft(
-            state,
-            bytes,
-            at,
-            first,
-            less(count),
-            stack,
-            rows,
-            cells,
-        ),
-        Sent::Bad(place) => refused(state, refusals::UNREAD, place, 0),
-        Sent::Short => refused(state, refusals::UNREAD, at, 0),
+        Sent::One(next) => Plan {
+            size: Size::Refused(refusals::COUNT, next),
+            ty: at,
+            more: 0,
+        },
+        Sent::Many(_, first, count) => {
+            let size = size_draft(bytes, at, first, stack);
+            Plan {
+                size,
+                ty: first,
+                more: less(count),
+            }
+        }
+        Sent::Bad(place) => Plan {
+            size: Size::Bad(place),
+            ty: at,
+            more: 0,
+        },
+        Sent::Short => Plan {
+            size: Size::Short,
+            ty: at,
+            more: 0,
+        },
     }
 }
 
@@ -196,7 +153,32 @@ fn less(n: usize) -> usize
     if n == 0 { 0 } else { n - 1 }
 }
 
-// The next call: `more` types of the one at `at` are to be checked, the first of them at `ty`; where there are none, a call starts at `at`.
+// The limits of the next call: `more` types of the one at `at` are to be checked, the first of them at `ty`; where there are none, a call
+// starts at `at`.
+fn plan(bytes: &[u8], at: usize, ty: usize, more: usize, stack: &mut [u8]) -> Plan
+    ensures { λ r. ⌜ r ≡ planned (length (now (stack .entry))) (now (bytes .entry)) at ty more ⌝ }
+{
+    if 0 < more {
+        let size = size_draft(bytes, at, ty, stack);
+        return Plan {
+            size,
+            ty,
+            more: more - 1,
+        };
+    }
+    let code = byte(bytes, low(at));
+    if code == MANY {
+        return plan_many(bytes, at, stack);
+    }
+    let size = size_call(bytes, at, stack);
+    Plan {
+        size,
+        ty: at,
+        more: 0,
+    }
+}
+
+// The next call: its limits first. In a run that was read, no size is bad or short.
 fn step(
     state: State,
     bytes: &[u8],
@@ -209,14 +191,20 @@ fn step(
 ) -> Turn
     ensures { λ r. ⌜ turn-end r (now (rows .exit)) (now (cells .exit)) ≡ turned (length (now (stack .entry))) (now (bytes .entry)) at ty more (machine (now (rows .entry)) (now (cells .entry)) state) ⌝ }
 {
-    if 0 < more {
-        return draft(state, bytes, at, ty, more - 1, stack, rows, cells);
+    let planned = plan(bytes, at, ty, more, stack);
+    let size = planned.size;
+    match size {
+        Size::Fits(head, _, next) => {
+            let s = state.begin();
+            let from = low(at);
+            let type_at = low(planned.ty);
+            let q = call(s, bytes, from, type_at, head, rows, cells);
+            answered(q, next, planned.more)
+        }
+        Size::Refused(number, next) => refused(state, number, next, planned.more),
+        Size::Bad(place) => refused(state, refusals::UNREAD, place, planned.more),
+        Size::Short => refused(state, refusals::UNREAD, at, planned.more),
     }
-    let code = byte(bytes, low(at));
-    if code == MANY {
-        return many(state, bytes, at, stack, rows, cells);
-    }
-    alone(state, bytes, at, stack, rows, cells)
 }
 
 // Where the call starts that is played next.

@@ -19,8 +19,8 @@ use Rattle.walk.specs.Reader.{Read, got, bad, Code, c-context, c-universe, c-in
 use Rattle.walk.specs.Limits.{Sized, fits, scope-over, size-over, index-over, size-call}
 use Rattle.walk.specs.Run.{scope-of, Ran, run-read, run}
 use Rattle.walk.specs.Run as R
-use Rattle.syntax.specs.Told.{term-at, code-number, head-in, sized, size-of, size-in, size-draft, size-draft-in, told as scan-told, unless-long}
-use Rattle.syntax.specs.Sent.{counted-by}
+use Rattle.syntax.specs.Told.{call-at, term-at, code-number, head-in, sized, size-of, size-in, size-draft, size-draft-in, told as scan-told, unless-long}
+use Rattle.syntax.specs.Sent.{counted-by, sent-in}
 use Rattle.syntax.specs.declared.scan.Scanned.the-variants.{Calls as Scans}
 use Rattle.syntax.specs.Ends.{run-fault}
 use Rattle.syntax.specs.Calls.{TermsAt, no-terms, next-term, CallAt, SentAt, few-calls, CallsAt, no-more, next-call, RunIs, run-is as read-is}
@@ -29,7 +29,7 @@ use Rattle.link.specs.Asked.{Said, lowest-of, ask, ask-sized, ask-counted, ask-
 use Rattle.link.specs.Asked as L
 use Rattle.link.specs.Words.{said-calls}
 use Rattle.run.specs.Call.{row-alone, row-first, row-quoted, called}
-use Rattle.run.specs.Run.{low-of, at-most, started, Told, refused-of, told, turned-by, tight, turned-alone, turned-draft, many-by, turned-many, turned, from-of, played, Ended, end-run, refused-run, read-run as ended-read, run-by, run-of}
+use Rattle.run.specs.Run.{low-of, at-most, started, Told, refused-of, told, turned-by, tight, planned-by, planned-many, planned, turned-as, turned, from-of, played, Ended, end-run, refused-run, read-run as ended-read, run-by, run-of}
 use Rattle.run.specs.Same.Terms.{up-is}
 use Rattle.run.specs.Same.Calls.{by-call, called-is, draft-is}
 
@@ -85,6 +85,16 @@ module _ (bytes : List ℕ) (short : length bytes ≤ 65536) where
       go true e = absurd (omega (arith, ltb-true 131073 (2 * length bytes + 1) e))
       go false e = refl
 
+  -- a call by itself, and a check of one with many types
+  abbrev turned-alone : ℕ → Machine → Told
+  turned-alone at w = turned-by (size-in (tight 131073 bytes) (call-at bytes at)) bytes at at 0 w
+
+  abbrev turned-draft : (at ty more : ℕ) → Machine → Told
+  turned-draft at ty more w = turned-by (size-draft-in (tight 131073 bytes) (call-at bytes at) (term-at bytes ty)) bytes at ty more w
+
+  abbrev turned-many : ℕ → Machine → Told
+  turned-many at w = turned-as (planned-many 131073 bytes at) bytes at w
+
   -- one call, by its size
   sized-is : (at ty next more : ℕ) (head call : Call) → ((n : ℕ) → size-call call ≡ fits n → (w : Machine) → told (called bytes at ty (head-in (head .code) (head .dims) (length (head .types))) (afresh w)) next more ≡ told-of (ask (callees (w .state .limit)) (call .code) (call .dims) (scope-of Nil (call .types)) (call .terms) (afresh w)) next more) → at < 4294967296 → ty < 4294967296 → (w : Machine) → turned-by (sized (size-call call) head next) bytes at ty more w ≡ told-of (ask-sized (size-call call) call w) next more
   unfolding turned-by sized ask-sized refused-of afresh
@@ -97,16 +107,16 @@ module _ (bytes : List ℕ) (short : length bytes ≤ 65536) where
       go (fits n) e = rw (low-is at l, low-is ty k) (walked n e w)
 
   -- a call by itself
-  alone-is : (at : ℕ) {call : Call} {next : ℕ} → CallAt bytes at call next → lists-types (call .code) ≡ false → (w : Machine) → turned-alone 131073 bytes at w ≡ told-of (ask-call call w) next 0
-  unfolding turned-alone size-in size-of ask-counted afresh
+  alone-is : (at : ℕ) {call : Call} {next : ℕ} → CallAt bytes at call next → lists-types (call .code) ≡ false → (w : Machine) → turned-alone at w ≡ told-of (ask-call call w) next 0
+  unfolding size-in size-of ask-counted afresh
   alone-is at {call} {next} C f w =
       let l : at < 4294967296 = omega (arith, C .far, C .inside) in
       rw (C .reads, roomy, f)
       (sized-is at at next 0 call call (λ n e w. unfold called in rw (called-is bytes short (afresh w .state .limit) at at C f e) (asked next 0 (callees (afresh w .state .limit)) (call .code) f (call .dims) (scope-of Nil (call .types)) (call .terms) (afresh w))) l l w)
 
   -- a check of a call with many types
-  check-is : (at ty more : ℕ) {call : Call} {middle : ℕ} {u : Term} {end : ℕ} → CallAt bytes at call middle → lists-types (call .code) ≡ true → TermsAt bytes ty (u ∷ []) end → ty < length bytes → term-at bytes ty ≡ got u (drop end bytes) end → (w : Machine) → turned-draft 131073 bytes at ty more w ≡ told-of (ask-call (check-of call u) w) end more
-  unfolding turned-draft size-draft-in size-draft ask-counted afresh
+  check-is : (at ty more : ℕ) {call : Call} {middle : ℕ} {u : Term} {end : ℕ} → CallAt bytes at call middle → lists-types (call .code) ≡ true → TermsAt bytes ty (u ∷ []) end → ty < length bytes → term-at bytes ty ≡ got u (drop end bytes) end → (w : Machine) → turned-draft at ty more w ≡ told-of (ask-call (check-of call u) w) end more
+  unfolding size-draft-in size-draft ask-counted afresh
   check-is at ty more {call} {middle} {u} {end} C f U h e w =
       rw (C .reads, roomy, e)
       (sized-is at ty end more call (check-of call u) (λ n z w. unfold called in rw (draft-is bytes short (afresh w .state .limit) at ty C (many-code (call .code) f) U z) (asked end more (callees (afresh w .state .limit)) c-check refl (call .dims) (scope-of Nil (call .types)) (call .terms ++ u ∷ []) (afresh w))) (omega (arith, C .far, C .inside)) (omega arith) w)
@@ -128,8 +138,8 @@ module _ (bytes : List ℕ) (short : length bytes ≤ 65536) where
       one-more (length calls) at ty more done w A (told-of a next more′) (sym e) ∙ rw (up-is done (omega arith)) (rw k at (h (a .1) (sets A (done * 4) (a .0 .number ∷ a .0 .row ∷ a .0 .result ∷ a .0 .deepest ∷ []))))
 
   -- where types are still to be checked
-  draft-turn : (at ty more : ℕ) (w : Machine) → turned 131073 bytes at ty (suc more) w ≡ turned-draft 131073 bytes at ty more w
-  unfolding turned
+  draft-turn : (at ty more : ℕ) (w : Machine) → turned 131073 bytes at ty (suc more) w ≡ turned-draft at ty more w
+  unfolding turned planned
   draft-turn at ty more w = rw (lt-ltb 0 (suc more) (omega arith), sub-one (suc more))
 
   from-more : (at next n : ℕ) → from-of at next (suc n) ≡ at
@@ -148,20 +158,20 @@ module _ (bytes : List ℕ) (short : length bytes ≤ 65536) where
       (λ w A. drafts-play at call middle C f end us next rest (inside h) others K (done + 1) (omega arith) w A))
 
   -- a call that starts at an offset
-  starts-many : (at ty : ℕ) (w : Machine) → at < 4294967296 → eqb (getD bytes at 0) (code-number c-many) ≡ true → turned 131073 bytes at ty 0 w ≡ turned-many 131073 bytes at w
-  unfolding turned
+  starts-many : (at ty : ℕ) (w : Machine) → at < 4294967296 → eqb (getD bytes at 0) (code-number c-many) ≡ true → turned 131073 bytes at ty 0 w ≡ turned-many at w
+  unfolding turned planned
   starts-many at ty w l e = rw (low-is at l, e)
 
-  starts-alone : (at ty : ℕ) (w : Machine) → at < 4294967296 → eqb (getD bytes at 0) (code-number c-many) ≡ false → turned 131073 bytes at ty 0 w ≡ turned-alone 131073 bytes at w
-  unfolding turned
+  starts-alone : (at ty : ℕ) (w : Machine) → at < 4294967296 → eqb (getD bytes at 0) (code-number c-many) ≡ false → turned 131073 bytes at ty 0 w ≡ turned-alone at w
+  unfolding turned planned
   starts-alone at ty w l e = rw (low-is at l, e)
 
-  counted-many : (at : ℕ) (sent : Sent) (next : ℕ) (S : SentAt bytes at sent next) → (leb 1 (length (sent .drafts)) && leb (length (sent .drafts)) 16) ≡ true → (w : Machine) → turned-many 131073 bytes at w ≡ turned-draft 131073 bytes at (S .first) (length (sent .drafts) - 1) w
-  unfolding turned-many many-by counted-by
-  counted-many at sent next S q w = rw (roomy, S .tells, q)
+  counted-many : (at : ℕ) (sent : Sent) (next : ℕ) (S : SentAt bytes at sent next) → (leb 1 (length (sent .drafts)) && leb (length (sent .drafts)) 16) ≡ true → (w : Machine) → turned-many at w ≡ turned-draft at (S .first) (length (sent .drafts) - 1) w
+  unfolding planned-many planned-by counted-by
+  counted-many at sent next S q w = let e : sent-in (tight 131073 bytes) bytes at ≡ counted-by true next (S .first) (length (sent .drafts)) = rw (roomy, S .tells, q) in rw e
 
-  counted-wrong : (at : ℕ) (sent : Sent) (next : ℕ) (S : SentAt bytes at sent next) → (leb 1 (length (sent .drafts)) && leb (length (sent .drafts)) 16) ≡ false → lists-types (sent .call .code) ≡ true → (w : Machine) → turned-many 131073 bytes at w ≡ told-of (ask-call (sent .call) w) next 0
-  unfolding turned-many many-by counted-by refused-of ask-counted
+  counted-wrong : (at : ℕ) (sent : Sent) (next : ℕ) (S : SentAt bytes at sent next) → (leb 1 (length (sent .drafts)) && leb (length (sent .drafts)) 16) ≡ false → lists-types (sent .call .code) ≡ true → (w : Machine) → turned-many at w ≡ told-of (ask-call (sent .call) w) next 0
+  unfolding planned-many planned-by counted-by turned-by refused-of ask-counted
   counted-wrong at sent next S q f w = rw (roomy, S .tells, q, f)
 
   sent-low : (at : ℕ) (sent : Sent) (next : ℕ) → SentAt bytes at sent next → at < 4294967296
@@ -181,7 +191,7 @@ module _ (bytes : List ℕ) (short : length bytes ≤ 65536) where
     same-first [] d f q = absurd (let z : _≡_ {A = ℕ} 0 1 = cc in omega arith)
     same-first (u ∷ us) d f q =
         let n : length (sent .drafts) - 1 ≡ length us = rw d (sub-one (suc (length us))) in
-        starts-many at ty w (sent-low at sent next S) (S .many ∙ f) ∙ counted-many at sent next S (rw d q) w ∙ ap (λ (k : ℕ). turned-draft 131073 bytes at (S .first) k w) n ∙ sym (draft-turn at (S .first) (length us) w)
+        starts-many at ty w (sent-low at sent next S) (S .many ∙ f) ∙ counted-many at sent next S (rw d q) w ∙ ap (λ (k : ℕ). turned-draft at (S .first) k w) n ∙ sym (draft-turn at (S .first) (length us) w)
 
     one-turn : (k ty₁ more₁ : ℕ) → turned 131073 bytes at ty 0 w ≡ turned 131073 bytes at ty₁ more₁ w → played (suc k) 131073 bytes at ty 0 done w A ≡ played (suc k) 131073 bytes at ty₁ more₁ done w A
     unfolding played

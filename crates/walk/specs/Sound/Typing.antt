@@ -8,7 +8,7 @@ use lib.Dec.{lit<}
 use Rattle.walk.specs.Syntax.{quote, quote?, I0, I1, Dim, Neg, Meet, Join, Term, Universe, Var, Nat, Zero, Pi, Lam, App, Path, PathLam, PathApp, Sigma, Pair, Fst, Snd, Context, Cons}
 use Rattle.walk.specs.Judgment.{Judgment, max}
 use Rattle.walk.specs.Rules.{Follows, by·type·u, by·type·nat, by·type·zero, by·type·v, by·type·pi, by·type·lam, by·type·app, by·type·path, by·type·plam, by·type·papp, by·type·conv, by·type·sigma, by·type·pair, by·type·fst, by·type·snd}
-use Rattle.walk.specs.Reader.{Kind, Kind-discrete, k-u, k-pi, k-path, k-sigma}
+use Rattle.walk.specs.Reader.{Kind, Kind-discrete, k-pi, k-path, k-sigma}
 use Rattle.walk.specs.Rule as R
 use Rattle.walk.specs.Refusal as Refusal
 use Rattle.walk.specs.State.{of-term, Row, key}
@@ -37,6 +37,14 @@ module _ (c : Callees) (S : Sound c) where
       (λ q. giving (o₂ .0, x) λ _ e. lift e (lift e₂ (lift e₁ (rw q h₀))))
       (λ _. bind (S .check d g (o₂ .0) (Universe (o₁ .0))) λ _ _ e₃ h₃. bind (emitted (lift e₃ (lift e₂ (lift e₁ h₀)) also lift e₃ h₂ also h₃ also none-cited) by·type·conv) λ row _ _ h. giving (o₂ .0, row) λ _ e. lift e h)
 
+  pub universe-sound : {rs : List Row} (d : ℕ) (g : Context) (t : Term) → Keeps rs (universe-body c d g t) (λ o. At (o .1) (typing d g t (Universe (o .0))))
+  unfolding universe-body
+  universe-sound d g t =
+      bind (S .infer d g t) λ o₁ _ _ h₁.
+      cases (level (o₁ .0))
+      (λ l q. giving (l, o₁ .1) λ _ e. lift e (rw (level-is (o₁ .0) l q) at h₁))
+      (λ _. convert (bind (S .expose d g t (o₁ .0) (o₁ .1) h₁) λ o₂ _ _ h₂. cases (level (o₂ .0)) (λ l q. giving (l, o₂ .1) λ _ e. lift e (rw (level-is (o₂ .0) l q) at h₂)) (λ _. refusing (lit< tt))))
+
   pub check-sound : {rs : List Row} (d : ℕ) (g : Context) (t ty : Term) → Keeps rs (check-body c d g t ty) (λ x. At x (typing d g t ty))
   unfolding check-body
   check-sound d g t ty =
@@ -56,9 +64,6 @@ module _ (c : Callees) (S : Sound c) where
   unfolding as-parts
   as-parts-sound k parts made is refusal n d g t =
       bind (headed-sound k d g t) λ o _ _ h. cases (parts (o .0)) (λ of q. giving (of, o .1) λ _ e. lift e (rw (is (o .0) of q) at h)) (λ _. refusing n)
-
-  pub universe-sound : {rs : List Row} (d : ℕ) (g : Context) (t : Term) → Keeps rs (universe-body c d g t) (λ o. At (o .1) (typing d g t (Universe (o .0))))
-  universe-sound = as-parts-sound k-u level Universe level-is Refusal.no-type (lit< tt)
 
   as-pi-sound : {rs : List Row} (d : ℕ) (g : Context) (f : Term) → Keeps rs (as-pi c d g f) (λ o. At (o .1) (typing d g f (Pi (o .0 .0) (o .0 .1))))
   as-pi-sound = as-parts-sound k-pi pi-parts (λ m. Pi (m .0) (m .1)) pi-is Refusal.no-function (lit< tt)

@@ -89,6 +89,15 @@ expose-body c d g t ty typed = do
         row ← emit R.type·conv (typed ∷ equality ∷ formed ∷ []) (typing d g t normal)
         pure (normal, row)
 
+unfoldable pub universe-body : Callees → ℕ → Context → Term → M (ℕ × ℕ)
+universe-body c d g t = do
+  (ty, row) ← c .infer d g t
+  from level ty
+      get (λ l. pure (l, row))
+      or (converting do
+        (normal, row′) ← c .expose d g t ty row
+        from level normal get (λ l. pure (l, row′)) or refuse Refusal.no-type)
+
 unfoldable pub check-body : Callees → ℕ → Context → Term → Term → M ℕ
 check-body c d g t expected = do
   (actual, row) ← c .infer d g t
@@ -114,9 +123,6 @@ unfoldable pub as-parts : {A : Type 0} → Kind → (Term → Option A) → ℕ 
 as-parts k parts refusal c d g t = do
   (ty, row) ← headed k c d g t
   from parts ty get (λ of. pure (of, row)) or refuse refusal
-
-abbrev pub universe-body : Callees → ℕ → Context → Term → M (ℕ × ℕ)
-universe-body c d g t = as-parts k-u level Refusal.no-type c d g t
 
 abbrev pub as-pi : Callees → ℕ → Context → Term → M ((Term × Term) × ℕ)
 as-pi c d g f = as-parts k-pi pi-parts Refusal.no-function c d g f
