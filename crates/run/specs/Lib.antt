@@ -6,3 +6,4 @@ pub mod Run
 pub mod Same
 pub mod Reads
 pub mod Rejects
+pub mod RejectsMany
