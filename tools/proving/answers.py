@@ -4,6 +4,7 @@ from language import TERMS
 # Further names to unfold, by the function's name, or by CRATE/NAME where two crates have one name.
 UNFOLD = {
     'run/step': 'turned-by',
+    'plan-many': 'planned-by',
     'play-run': 'run-by read-run',
     'link-cell': 'linked cell-end',
     'link-row': 'linked row-end',
@@ -108,6 +109,16 @@ HAND = {
     'put-again': {'first': ['put-again _ _ _ _']},
     'put-third': {'first': ['put-all _ _ _ _ _ _ _ _ _ _']},
     'put-row': {'first': ['put-thirds _ _ _ _ _ _ _ _ _ _ _ _ _ _ _ _ _ _ _ _ _ _ _ _ _ _']},
+    'play': {
+        'Inv-loop': '(length stack ≡ length stack₀) × (length rows ≡ length rows₀) × (length cells ≡ length cells₀) × (length answers ≡ length answers₀) × (played calls (length stack₀) bytes 2 2 0 0 (machine rows₀ cells₀ s₀) answers₀ ≡ played left (length stack₀) bytes at ty more done (machine rows cells s) answers)',
+        'μ-loop': 'left',
+        'use': ['use lib.ListN.{length}', 'use Rattle.producer.specs.Machine.{machine}'],
+        'over': {
+            'loop-again': '(%s, rw (@loop@ .inv .4, law.played-turn _ _ _ _ _ _ _ _ _ _ _ _ (@loop@ .inv .0) (@step@ .ensures) (@call-from@ .ensures) (@loop-test@ .taken), ← @put-answer@ .ensures, ← @succ@ .ensures))' % ', '.join(['omega (arith, @loop@ .inv, @step@ .kept, @put-answer@ .kept)'] * 4),
+            'returns': 'rw (@loop@ .inv .4, law.played-none _ _ _ _ _ _ _ _ _ (@loop-test@ .left))',
+            **{'same-length' + n: 'omega (arith, @loop@ .inv)' for n in ('', '-2', '-3', '-4')},
+        },
+    },
     'turns': {
         'Inv-loop': '(i ≤ 32) × (length rows ≡ length rows₀) × (length cells ≡ length cells₀) × (rounds 32 (callees left) d g t ty t evidence (machine rows₀ cells₀ s₀) ≡ rounds (32 - i) (callees left) d g t ty current row (machine rows cells s))',
         'μ-loop': '32 - i',

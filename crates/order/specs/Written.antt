@@ -350,12 +350,16 @@ same-read (a ∷ b ∷ bs) = at-limit (leb 1 (a + 256 * b) && leb (a + 256 * b) 
     at-limit true t = at-calls t (read-calls (length (a ∷ b ∷ bs)) (length (a ∷ b ∷ bs)) bs 2) refl
     at-limit false t = left-alone (a ∷ b ∷ bs) (out-bad (a ∷ b ∷ bs) 0 (limit-is a b bs false t))
 
--- So both are refused alike, or give the same calls, answers, rows and cells, where neither is too long (refusal 2).
+-- So both are refused alike, or give the same calls, answers, rows and cells: with refusal 2 left aside, of all bytes (`same-played`); with
+-- it, where neither is too long (`same-run`).
 module _ (row-words cell-words answer-words : ℕ) where
   played-alike : {r r′ : Read (ℕ × List Call)} → Same-run r r′ → run-read row-words cell-words answer-words r ≡ run-read row-words cell-words answer-words r′
   unfolding run-read
   played-alike the-same = refl
   played-alike same-calls = refl
+
+  pub same-played : (bytes : List ℕ) → run-read row-words cell-words answer-words (read-run (written-out bytes)) ≡ run-read row-words cell-words answer-words (read-run bytes)
+  same-played bytes = played-alike (same-read bytes)
 
   pub same-run : (bytes : List ℕ) → length bytes ≤ 65536 → length (written-out bytes) ≤ 65536 → run row-words cell-words answer-words (written-out bytes) ≡ run row-words cell-words answer-words bytes
   unfolding run
@@ -365,7 +369,7 @@ module _ (row-words cell-words answer-words : ℕ) where
       go true b c e f = refl
       go false true c e f = absurd (let z : _≡_ {A = ℕ} 0 1 = cc in omega arith)
       go false false true e f = absurd (let z : _≡_ {A = ℕ} 0 1 = cc in omega arith)
-      go false false false e f = played-alike (same-read bytes)
+      go false false false e f = same-played bytes
 
 -- A wrong count: one call, which is refused with 23 and deepest 0, and leaves the state.
 pub wrong-count : (sent : Sent) (s : State) → lists-types (sent .call .code) ≡ true → (leb 1 (length (sent .drafts)) && leb (length (sent .drafts)) 16) ≡ false → (calls-of sent ≡ sent .call ∷ []) × (play (sent .call) s ≡ (refusal Refusal.count 0, s))

@@ -21,7 +21,6 @@ abbrev claims : ℕ → lts.Claims
 claims t = (head-below t, head.Post, answers-Two-as-inferred-reads.Asked, answers-Two-as-inferred-reads.Learnt, shape-of-reads.Asked, shape-of-reads.Learnt, check-below t, check.Post, answers-Got-as-inferred-reads.Asked, answers-Got-as-inferred-reads.Learnt, transform-reads.Asked, transform-reads.Learnt, cite3-reads.Asked, cite3-reads.Learnt)
 
 module _ (t : ℕ) where
-
   head-requires : lts.Need-head-requires (claims t) (app-at t) app.Post
   head-requires c κs = (omega (arith, c .before .before .before .before .pre .0), tt)
 
@@ -81,7 +80,7 @@ module _ (t : ℕ) where
   returns-3 : lts.Need-returns-3 (claims t) (app-at t) app.Post
   unfolding find-app steps as-pi
   returns-3 c = rw (← c .before .before .before .before .before .before .before .before .before .before .before .before .before .before .before .before .before .before .before .before .before .before .head .ensures, c .before .before .before .before .before .before .before .before .before .before .before .before .before .before .before .before .q1 .given .1, ← c .before .before .before .before .before .before .before .before .before .before .before .before .before .shape-of .ensures, c .before .before .before .before .before .before .before .before .before .before .before .shape .given .1, ← c .before .before .before .before .before .before .before .check .ensures, c .as-inferred2 .ensures)
-    (rw (c .before .enum-told2 .given .1))
+      (rw (c .before .enum-told2 .given .1))
 
   transform-requires : lts.Need-transform-requires (claims t) (app-at t) app.Post
   transform-requires c κs = search needs
@@ -104,7 +103,7 @@ module _ (t : ℕ) where
   returns-4 : lts.Need-returns-4 (claims t) (app-at t) app.Post
   unfolding find-app steps as-pi
   returns-4 c = rw (← c .before .before .before .before .before .before .before .before .before .before .before .before .before .before .before .before .before .before .before .before .before .before .before .before .before .before .before .before .before .before .before .before .head .ensures, c .before .before .before .before .before .before .before .before .before .before .before .before .before .before .before .before .before .before .before .before .before .before .before .before .before .before .q1 .given .1, ← c .before .before .before .before .before .before .before .before .before .before .before .before .before .before .before .before .before .before .before .before .before .before .before .shape-of .ensures, c .before .before .before .before .before .before .before .before .before .before .before .before .before .before .before .before .before .before .before .before .before .shape .given .1, ← c .before .before .before .before .before .before .before .before .before .before .before .before .before .before .before .before .before .check .ensures, c .before .before .before .before .before .before .before .before .before .before .before .q2 .given .1)
-    (rw (← c .before .before .before .before .before .before .before .transform .ensures, c .as-inferred3 .ensures, c .before .enum-told3 .given .1))
+      (rw (← c .before .before .before .before .before .before .before .transform .ensures, c .as-inferred3 .ensures, c .before .enum-told3 .given .1))
 
   cite3-requires : lts.Need-cite3-requires (claims t) (app-at t) app.Post
   cite3-requires c κs = search needs
@@ -118,7 +117,7 @@ module _ (t : ℕ) where
   returns-5 : lts.Need-returns-5 (claims t) (app-at t) app.Post
   unfolding find-app steps as-pi
   returns-5 c = rw (← c .before .before .before .before .before .before .before .before .before .before .before .before .before .before .before .before .before .before .before .before .before .before .before .before .before .before .before .before .before .before .before .before .before .head .ensures, c .before .before .before .before .before .before .before .before .before .before .before .before .before .before .before .before .before .before .before .before .before .before .before .before .before .before .before .q1 .given .1, ← c .before .before .before .before .before .before .before .before .before .before .before .before .before .before .before .before .before .before .before .before .before .before .before .before .shape-of .ensures, c .before .before .before .before .before .before .before .before .before .before .before .before .before .before .before .before .before .before .before .before .before .before .shape .given .1, ← c .before .before .before .before .before .before .before .before .before .before .before .before .before .before .before .before .before .before .check .ensures, c .before .before .before .before .before .before .before .before .before .before .before .before .q2 .given .1)
-    (rw (← c .before .before .before .before .before .before .before .before .transform .ensures, c .before .before .q3 .given .1, ← c .cite3 .ensures))
+      (rw (← c .before .before .before .before .before .before .before .before .transform .ensures, c .before .before .q3 .given .1, ← c .cite3 .ensures))
 
   pub part : {M : Type 1} → lts.Closed (claims t) (app-at t) app.Post M
   part = lts.spec (claims t) (app-at t) app.Post head-requires enum-known-q1 enum-told as-inferred-requires same-length same-length-2 returns shape-of-requires enum-known-shape same-length-3 same-length-4 returns-2 check-requires enum-known-q2 enum-told-2 as-inferred-requires-2 same-length-5 same-length-6 returns-3 transform-requires enum-known-q3 enum-told-3 as-inferred-requires-3 same-length-7 same-length-8 returns-4 cite3-requires same-length-9 same-length-10 returns-5

@@ -17,7 +17,6 @@ abbrev claims : ℕ → lts.Claims
 claims t = (ctx-below t, ctx.Post, answers-Got-as-inferred-reads.Asked, answers-Got-as-inferred-reads.Learnt, intern-reads.Asked, intern-reads.Learnt, cite1-reads.Asked, cite1-reads.Learnt)
 
 module _ (t : ℕ) where
-
   ctx-requires : lts.Need-ctx-requires (claims t) (atom-at t) atom.Post
   ctx-requires c κs = (omega (arith, c .before .before .before .before .pre .0), tt)
 

@@ -20,7 +20,6 @@ abbrev claims : ℕ → lts.Claims
 claims t = (universe-below t, universe.Post, answers-Two-as-reduced-reads.Asked, answers-Two-as-reduced-reads.Learnt, prepare-reads.Asked, prepare-reads.Learnt, answers-Got-as-reduced-reads.Asked, answers-Got-as-reduced-reads.Learnt, infer-below t, infer.Post, check-below t, check.Post, beta-row-reads.Asked, beta-row-reads.Learnt)
 
 module _ (t : ℕ) where
-
   universe-requires : lts.Need-universe-requires (claims t) (beta-at t) beta.Post
   universe-requires c κs = (omega (arith, c .before .before .before .before .pre .0), tt)
 
@@ -86,7 +85,7 @@ module _ (t : ℕ) where
   returns-3 : lts.Need-returns-3 (claims t) (beta-at t) beta.Post
   unfolding beta steps
   returns-3 c = rw (← c .before .before .before .before .before .before .before .before .before .before .before .before .before .before .before .before .before .before .before .before .before .before .before .before .before .universe .ensures, c .before .before .before .before .before .before .before .before .before .before .before .before .before .before .before .before .before .before .before .q1 .given .1, ← c .before .before .before .before .before .before .before .before .before .before .before .before .before .before .before .prepare .ensures, c .before .before .before .before .before .before .before .before .before .before .before .q2 .given .1, ← c .before .before .before .before .before .before .before .infer .ensures, c .as-reduced3 .ensures)
-    (rw (c .before .enum-told3 .given .1))
+      (rw (c .before .enum-told3 .given .1))
 
   prepare-requires-2 : lts.Need-prepare-requires-2 (claims t) (beta-at t) beta.Post
   prepare-requires-2 c κs = search needs
@@ -109,7 +108,7 @@ module _ (t : ℕ) where
   returns-4 : lts.Need-returns-4 (claims t) (beta-at t) beta.Post
   unfolding beta steps
   returns-4 c = rw (← c .before .before .before .before .before .before .before .before .before .before .before .before .before .before .before .before .before .before .before .before .before .before .before .before .before .before .before .before .before .before .before .before .before .universe .ensures, c .before .before .before .before .before .before .before .before .before .before .before .before .before .before .before .before .before .before .before .before .before .before .before .before .before .before .before .q1 .given .1, ← c .before .before .before .before .before .before .before .before .before .before .before .before .before .before .before .before .before .before .before .before .before .before .before .prepare .ensures, c .before .before .before .before .before .before .before .before .before .before .before .before .before .before .before .before .before .before .before .q2 .given .1, ← c .before .before .before .before .before .before .before .before .before .before .before .before .before .before .before .infer .ensures, c .before .before .before .before .before .before .before .before .before .q3 .given .1)
-    (rw (← c .before .before .before .before .before .prepare2 .ensures, c .as-reduced4 .ensures, c .before .enum-told4 .given .1))
+      (rw (← c .before .before .before .before .before .prepare2 .ensures, c .as-reduced4 .ensures, c .before .enum-told4 .given .1))
 
   universe-requires-2 : lts.Need-universe-requires-2 (claims t) (beta-at t) beta.Post
   universe-requires-2 c κs = (omega (arith, c .before .before .before .before .before .before .before .before .before .before .before .before .before .before .before .before .before .before .before .before .before .before .before .before .before .before .before .before .before .before .before .before .before .before .before .before .before .before .before .before .pre .0), tt)
@@ -132,7 +131,7 @@ module _ (t : ℕ) where
   returns-5 : lts.Need-returns-5 (claims t) (beta-at t) beta.Post
   unfolding beta steps
   returns-5 c = rw (← c .before .before .before .before .before .before .before .before .before .before .before .before .before .before .before .before .before .before .before .before .before .before .before .before .before .before .before .before .before .before .before .before .before .before .before .before .before .before .before .before .before .before .before .universe .ensures, c .before .before .before .before .before .before .before .before .before .before .before .before .before .before .before .before .before .before .before .before .before .before .before .before .before .before .before .before .before .before .before .before .before .before .before .before .before .q1 .given .1, ← c .before .before .before .before .before .before .before .before .before .before .before .before .before .before .before .before .before .before .before .before .before .before .before .before .before .before .before .before .before .before .before .before .before .prepare .ensures, c .before .before .before .before .before .before .before .before .before .before .before .before .before .before .before .before .before .before .before .before .before .before .before .before .before .before .before .before .before .q2 .given .1, ← c .before .before .before .before .before .before .before .before .before .before .before .before .before .before .before .before .before .before .before .before .before .before .before .before .before .infer .ensures, c .before .before .before .before .before .before .before .before .before .before .before .before .before .before .before .before .before .before .before .q3 .given .1)
-    (rw (← c .before .before .before .before .before .before .before .before .before .before .before .before .before .before .before .prepare2 .ensures, c .before .before .before .before .before .before .before .before .before .before .before .q4 .given .1, ← c .before .before .before .before .before .before .before .universe2 .ensures, c .as-reduced5 .ensures, c .before .enum-told5 .given .1))
+      (rw (← c .before .before .before .before .before .before .before .before .before .before .before .before .before .before .before .prepare2 .ensures, c .before .before .before .before .before .before .before .before .before .before .before .q4 .given .1, ← c .before .before .before .before .before .before .before .universe2 .ensures, c .as-reduced5 .ensures, c .before .enum-told5 .given .1))
 
   check-requires : lts.Need-check-requires (claims t) (beta-at t) beta.Post
   check-requires c κs = (omega (arith, c .before .before .before .before .before .before .before .before .before .before .before .before .before .before .before .before .before .before .before .before .before .before .before .before .before .before .before .before .before .before .before .before .before .before .before .before .before .before .before .before .before .before .before .before .before .before .before .before .before .before .pre .0), tt)
@@ -155,8 +154,8 @@ module _ (t : ℕ) where
   returns-6 : lts.Need-returns-6 (claims t) (beta-at t) beta.Post
   unfolding beta steps
   returns-6 c = rw (← c .before .before .before .before .before .before .before .before .before .before .before .before .before .before .before .before .before .before .before .before .before .before .before .before .before .before .before .before .before .before .before .before .before .before .before .before .before .before .before .before .before .before .before .before .before .before .before .before .before .before .before .before .before .universe .ensures, c .before .before .before .before .before .before .before .before .before .before .before .before .before .before .before .before .before .before .before .before .before .before .before .before .before .before .before .before .before .before .before .before .before .before .before .before .before .before .before .before .before .before .before .before .before .before .before .q1 .given .1, ← c .before .before .before .before .before .before .before .before .before .before .before .before .before .before .before .before .before .before .before .before .before .before .before .before .before .before .before .before .before .before .before .before .before .before .before .before .before .before .before .before .before .before .before .prepare .ensures, c .before .before .before .before .before .before .before .before .before .before .before .before .before .before .before .before .before .before .before .before .before .before .before .before .before .before .before .before .before .before .before .before .before .before .before .before .before .before .before .q2 .given .1, ← c .before .before .before .before .before .before .before .before .before .before .before .before .before .before .before .before .before .before .before .before .before .before .before .before .before .before .before .before .before .before .before .before .before .before .before .infer .ensures, c .before .before .before .before .before .before .before .before .before .before .before .before .before .before .before .before .before .before .before .before .before .before .before .before .before .before .before .before .before .q3 .given .1)
-    (rw (← c .before .before .before .before .before .before .before .before .before .before .before .before .before .before .before .before .before .before .before .before .before .before .before .before .before .prepare2 .ensures, c .before .before .before .before .before .before .before .before .before .before .before .before .before .before .before .before .before .before .before .before .before .q4 .given .1, ← c .before .before .before .before .before .before .before .before .before .before .before .before .before .before .before .before .before .universe2 .ensures, c .before .before .before .before .before .before .before .before .before .before .before .q5 .given .1, ← c .before .before .before .before .before .before .before .check .ensures, c .as-reduced6 .ensures)
-    (rw (c .before .enum-told6 .given .1)))
+      (rw (← c .before .before .before .before .before .before .before .before .before .before .before .before .before .before .before .before .before .before .before .before .before .before .before .before .before .prepare2 .ensures, c .before .before .before .before .before .before .before .before .before .before .before .before .before .before .before .before .before .before .before .before .before .q4 .given .1, ← c .before .before .before .before .before .before .before .before .before .before .before .before .before .before .before .before .before .universe2 .ensures, c .before .before .before .before .before .before .before .before .before .before .before .q5 .given .1, ← c .before .before .before .before .before .before .before .check .ensures, c .as-reduced6 .ensures)
+      (rw (c .before .enum-told6 .given .1)))
 
   beta-row-requires : lts.Need-beta-row-requires (claims t) (beta-at t) beta.Post
   beta-row-requires c κs = search needs
@@ -170,8 +169,8 @@ module _ (t : ℕ) where
   returns-7 : lts.Need-returns-7 (claims t) (beta-at t) beta.Post
   unfolding beta steps
   returns-7 c = rw (← c .before .before .before .before .before .before .before .before .before .before .before .before .before .before .before .before .before .before .before .before .before .before .before .before .before .before .before .before .before .before .before .before .before .before .before .before .before .before .before .before .before .before .before .before .before .before .before .before .before .before .before .before .before .before .before .before .before .before .before .before .universe .ensures, c .before .before .before .before .before .before .before .before .before .before .before .before .before .before .before .before .before .before .before .before .before .before .before .before .before .before .before .before .before .before .before .before .before .before .before .before .before .before .before .before .before .before .before .before .before .before .before .before .before .before .before .before .before .before .q1 .given .1, ← c .before .before .before .before .before .before .before .before .before .before .before .before .before .before .before .before .before .before .before .before .before .before .before .before .before .before .before .before .before .before .before .before .before .before .before .before .before .before .before .before .before .before .before .before .before .before .before .before .before .before .prepare .ensures, c .before .before .before .before .before .before .before .before .before .before .before .before .before .before .before .before .before .before .before .before .before .before .before .before .before .before .before .before .before .before .before .before .before .before .before .before .before .before .before .before .before .before .before .before .before .before .q2 .given .1, ← c .before .before .before .before .before .before .before .before .before .before .before .before .before .before .before .before .before .before .before .before .before .before .before .before .before .before .before .before .before .before .before .before .before .before .before .before .before .before .before .before .before .before .infer .ensures, c .before .before .before .before .before .before .before .before .before .before .before .before .before .before .before .before .before .before .before .before .before .before .before .before .before .before .before .before .before .before .before .before .before .before .before .before .q3 .given .1)
-    (rw (← c .before .before .before .before .before .before .before .before .before .before .before .before .before .before .before .before .before .before .before .before .before .before .before .before .before .before .before .before .before .before .before .before .prepare2 .ensures, c .before .before .before .before .before .before .before .before .before .before .before .before .before .before .before .before .before .before .before .before .before .before .before .before .before .before .before .before .q4 .given .1, ← c .before .before .before .before .before .before .before .before .before .before .before .before .before .before .before .before .before .before .before .before .before .before .before .before .universe2 .ensures, c .before .before .before .before .before .before .before .before .before .before .before .before .before .before .before .before .before .before .q5 .given .1, ← c .before .before .before .before .before .before .before .before .before .before .before .before .before .before .check .ensures, c .before .before .before .before .before .before .before .before .q6 .given .1)
-    (rw (← c .before .before .before .before .beta-row .ensures)))
+      (rw (← c .before .before .before .before .before .before .before .before .before .before .before .before .before .before .before .before .before .before .before .before .before .before .before .before .before .before .before .before .before .before .before .before .prepare2 .ensures, c .before .before .before .before .before .before .before .before .before .before .before .before .before .before .before .before .before .before .before .before .before .before .before .before .before .before .before .before .q4 .given .1, ← c .before .before .before .before .before .before .before .before .before .before .before .before .before .before .before .before .before .before .before .before .before .before .before .before .universe2 .ensures, c .before .before .before .before .before .before .before .before .before .before .before .before .before .before .before .before .before .before .q5 .given .1, ← c .before .before .before .before .before .before .before .before .before .before .before .before .before .before .check .ensures, c .before .before .before .before .before .before .before .before .q6 .given .1)
+      (rw (← c .before .before .before .before .beta-row .ensures)))
 
   pub part : {M : Type 1} → lts.Closed (claims t) (beta-at t) beta.Post M
   part = lts.spec (claims t) (beta-at t) beta.Post universe-requires enum-known-q1 enum-told as-reduced-requires same-length same-length-2 returns prepare-requires enum-known-q2 enum-told-2 as-reduced-requires-2 same-length-3 same-length-4 returns-2 infer-requires enum-known-q3 enum-told-3 as-reduced-requires-3 same-length-5 same-length-6 returns-3 prepare-requires-2 enum-known-q4 enum-told-4 as-reduced-requires-4 same-length-7 same-length-8 returns-4 universe-requires-2 enum-known-q5 enum-told-5 as-reduced-requires-5 same-length-9 same-length-10 returns-5 check-requires enum-known-q6 enum-told-6 as-reduced-requires-6 same-length-11 same-length-12 returns-6 beta-row-requires same-length-13 same-length-14 returns-7

@@ -22,7 +22,6 @@ abbrev claims : ℕ → lts.Claims
 claims t = (deeper-reads.Asked, deeper-reads.Learnt, infer-below t, infer.Post, as-got-reads.Asked, as-got-reads.Learnt, same-quote-reads.Asked, same-quote-reads.Learnt, converting-reads.Asked, converting-reads.Learnt, conv-below t, conv.Post, ended-got-reads.Asked, ended-got-reads.Learnt)
 
 module _ (t : ℕ) where
-
   returns : lts.Need-returns (claims t) (check-at t) check.Post
   unfolding check-body steps
   returns c = rw (law.check-none _ _ _ _ _ _ (c .if1 .taken))
@@ -89,7 +88,7 @@ module _ (t : ℕ) where
   returns-4 : lts.Need-returns-4 (claims t) (check-at t) check.Post
   unfolding check-body steps
   returns-4 c = rw (law.check-in _ _ _ _ _ _ (c .before .before .before .before .before .before .before .before .before .before .before .before .before .before .before .before .before .before .before .before .before .before .before .before .before .before .if1 .left), ← c .before .before .before .before .before .before .before .before .before .before .before .before .before .before .before .before .before .before .before .before .before .before .before .before .before .deeper .ensures, ← c .before .before .before .before .before .before .before .before .before .before .before .before .before .before .before .before .before .before .before .before .before .before .infer .ensures, c .before .before .before .before .before .before .before .before .before .before .before .before .before .before .before .before .q1 .given .1, ← c .before .before .before .before .before .before .before .before .before .before .before .before .before .same-quote .ensures, c .before .before .before .before .before .before .before .before .before .before .before .before .if2 .left)
-    (rw (lt-ltb _ _ (c .before .before .before .before .before .before .before .before .before .before .if3 .taken), ← c .before .before .before .before .before .before .before .before .converting .ensures, ← c .before .before .before .before .before .conv .ensures, law.ended-got-end, ← c .ended-got .ensures))
+      (rw (lt-ltb _ _ (c .before .before .before .before .before .before .before .before .before .before .if3 .taken), ← c .before .before .before .before .before .before .before .before .converting .ensures, ← c .before .before .before .before .before .conv .ensures, law.ended-got-end, ← c .ended-got .ensures))
 
   same-length-7 : lts.Need-same-length-7 (claims t) (check-at t) check.Post
   same-length-7 c = omega (arith, c .before .before .before .before .before .before .before .before .before .before .before .before .infer .kept)
@@ -100,7 +99,7 @@ module _ (t : ℕ) where
   returns-5 : lts.Need-returns-5 (claims t) (check-at t) check.Post
   unfolding check-body steps
   returns-5 c = rw (law.check-in _ _ _ _ _ _ (c .before .before .before .before .before .before .before .before .before .before .before .before .before .before .before .before .if1 .left), ← c .before .before .before .before .before .before .before .before .before .before .before .before .before .before .before .deeper .ensures, ← c .before .before .before .before .before .before .before .before .before .before .before .before .infer .ensures, c .before .before .before .before .before .before .q1 .given .1, ← c .before .before .before .same-quote .ensures, c .before .before .if2 .left)
-    (rw (le-ltb _ _ (c .if3 .left)))
+      (rw (le-ltb _ _ (c .if3 .left)))
 
   pub part : {M : Type 1} → lts.Closed (claims t) (check-at t) check.Post M
   part = lts.spec (claims t) (check-at t) check.Post returns sub-down deeper-requires infer-requires enum-known-q1 enum-told as-got-requires same-length same-length-2 returns-2 same-quote-requires same-length-3 same-length-4 returns-3 add-converting converting-requires conv-requires ended-got-requires same-length-5 same-length-6 returns-4 same-length-7 same-length-8 returns-5

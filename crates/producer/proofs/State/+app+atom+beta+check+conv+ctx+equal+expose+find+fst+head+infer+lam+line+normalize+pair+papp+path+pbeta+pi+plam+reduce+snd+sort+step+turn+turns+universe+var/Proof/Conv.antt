@@ -20,7 +20,6 @@ abbrev claims : ℕ → lts.Claims
 claims t = (universe-below t, universe.Post, as-got-reads.Asked, as-got-reads.Learnt, prepare-reads.Asked, prepare-reads.Learnt, equal-below t, equal.Post, cite3-reads.Asked, cite3-reads.Learnt, emit-has-reads.Asked, emit-has-reads.Learnt)
 
 module _ (t : ℕ) where
-
   universe-requires : lts.Need-universe-requires (claims t) (conv-at t) conv.Post
   universe-requires c κs = (omega (arith, c .before .before .before .before .pre .0), tt)
 
@@ -93,7 +92,7 @@ module _ (t : ℕ) where
   returns-4 : lts.Need-returns-4 (claims t) (conv-at t) conv.Post
   unfolding converted steps
   returns-4 c = rw (← c .before .before .before .before .before .before .before .before .before .before .before .before .before .before .before .before .before .before .before .before .before .before .before .before .before .universe .ensures, c .before .before .before .before .before .before .before .before .before .before .before .before .before .before .before .before .before .before .before .q1 .given .1, ← c .before .before .before .before .before .before .before .before .before .before .before .before .before .before .before .universe2 .ensures, c .before .before .before .before .before .before .before .before .before .q2 .given .1, eq-eqb _ _ (c .before .before .before .before .before .before .before .if1 .left), ← c .before .before .before .before .prepare .ensures)
-    (rw (c .enum-told3 .given .1))
+      (rw (c .enum-told3 .given .1))
 
   equal-requires : lts.Need-equal-requires (claims t) (conv-at t) conv.Post
   equal-requires c κs = (omega (arith, c .before .before .before .before .before .before .before .before .before .before .before .before .before .before .before .before .before .before .before .before .before .before .before .before .before .before .before .before .before .before .before .before .before .pre .0), tt)
@@ -113,7 +112,7 @@ module _ (t : ℕ) where
   returns-5 : lts.Need-returns-5 (claims t) (conv-at t) conv.Post
   unfolding converted steps
   returns-5 c = rw (← c .before .before .before .before .before .before .before .before .before .before .before .before .before .before .before .before .before .before .before .before .before .before .before .before .before .before .before .before .before .before .before .before .before .before .before .universe .ensures, c .before .before .before .before .before .before .before .before .before .before .before .before .before .before .before .before .before .before .before .before .before .before .before .before .before .before .before .before .before .q1 .given .1, ← c .before .before .before .before .before .before .before .before .before .before .before .before .before .before .before .before .before .before .before .before .before .before .before .before .before .universe2 .ensures, c .before .before .before .before .before .before .before .before .before .before .before .before .before .before .before .before .before .before .before .q2 .given .1, eq-eqb _ _ (c .before .before .before .before .before .before .before .before .before .before .before .before .before .before .before .before .before .if1 .left), ← c .before .before .before .before .before .before .before .before .before .before .before .before .before .before .prepare .ensures)
-    (rw (c .before .before .before .before .before .before .before .before .before .before .q3 .given .1, ← c .before .before .before .before .before .before .equal .ensures, c .enum-told4 .given .1))
+      (rw (c .before .before .before .before .before .before .before .before .before .before .q3 .given .1, ← c .before .before .before .before .before .before .equal .ensures, c .enum-told4 .given .1))
 
   cite3-requires : lts.Need-cite3-requires (claims t) (conv-at t) conv.Post
   cite3-requires c κs = search needs
@@ -130,7 +129,7 @@ module _ (t : ℕ) where
   returns-6 : lts.Need-returns-6 (claims t) (conv-at t) conv.Post
   unfolding converted steps
   returns-6 c = rw (← c .before .before .before .before .before .before .before .before .before .before .before .before .before .before .before .before .before .before .before .before .before .before .before .before .before .before .before .before .before .before .before .before .before .before .before .before .before .before .before .before .before .before .universe .ensures, c .before .before .before .before .before .before .before .before .before .before .before .before .before .before .before .before .before .before .before .before .before .before .before .before .before .before .before .before .before .before .before .before .before .before .before .before .q1 .given .1, ← c .before .before .before .before .before .before .before .before .before .before .before .before .before .before .before .before .before .before .before .before .before .before .before .before .before .before .before .before .before .before .before .before .universe2 .ensures, c .before .before .before .before .before .before .before .before .before .before .before .before .before .before .before .before .before .before .before .before .before .before .before .before .before .before .q2 .given .1, eq-eqb _ _ (c .before .before .before .before .before .before .before .before .before .before .before .before .before .before .before .before .before .before .before .before .before .before .before .before .if1 .left), ← c .before .before .before .before .before .before .before .before .before .before .before .before .before .before .before .before .before .before .before .before .before .prepare .ensures)
-    (rw (c .before .before .before .before .before .before .before .before .before .before .before .before .before .before .before .before .before .q3 .given .1, ← c .before .before .before .before .before .before .before .before .before .before .before .before .before .equal .ensures, c .before .before .before .before .before .before .before .q4 .given .1, ← c .before .before .before .before .before .cite3 .ensures, ← c .before .before .emit-has .ensures))
+      (rw (c .before .before .before .before .before .before .before .before .before .before .before .before .before .before .before .before .before .q3 .given .1, ← c .before .before .before .before .before .before .before .before .before .before .before .before .before .equal .ensures, c .before .before .before .before .before .before .before .q4 .given .1, ← c .before .before .before .before .before .cite3 .ensures, ← c .before .before .emit-has .ensures))
 
   pub part : {M : Type 1} → lts.Closed (claims t) (conv-at t) conv.Post M
   part = lts.spec (claims t) (conv-at t) conv.Post universe-requires enum-known-q1 enum-told as-got-requires same-length same-length-2 returns universe-requires-2 enum-known-q2 enum-told-2 as-got-requires-2 same-length-3 same-length-4 returns-2 same-length-5 same-length-6 returns-3 prepare-requires enum-known-q3 enum-told-3 same-length-7 same-length-8 returns-4 equal-requires enum-known-q4 enum-told-4 same-length-9 same-length-10 returns-5 cite3-requires emit-has-requires same-length-11 same-length-12 returns-6

@@ -24,7 +24,6 @@ abbrev claims : ℕ → lts.Claims
 claims t = (deeper-reads.Asked, deeper-reads.Learnt, read-reads.Asked, read-reads.Learnt, find-row-reads.Asked, find-row-reads.Learnt, cite0-reads.Asked, cite0-reads.Learnt, emit-reads.Asked, emit-reads.Learnt, ctx-below t, ctx.Post, universe-below t, universe.Post, as-got-reads.Asked, as-got-reads.Learnt, cite2-reads.Asked, cite2-reads.Learnt)
 
 module _ (t : ℕ) where
-
   returns : lts.Need-returns (claims t) (ctx-at t) ctx.Post
   unfolding ctx-body steps known-row known-or ctx-cons
   returns c = rw (law.ctx-none _ _ _ _ (c .if1 .taken))
@@ -62,7 +61,7 @@ module _ (t : ℕ) where
   returns-2 : lts.Need-returns-2 (claims t) (ctx-at t) ctx.Post
   unfolding ctx-body steps known-row known-or ctx-cons
   returns-2 c = rw (law.ctx-in _ _ _ _ (c .before .before .before .before .before .before .before .before .before .before .before .before .before .before .before .if1 .left), ← c .before .before .before .before .before .before .before .before .before .before .before .before .before .before .deeper .ensures, ← c .before .before .before .before .before .before .before .before .before .before .before .before .read .ensures, ← c .before .before .before .before .before .before .before .before .before .before .find-row .ensures, c .before .before .before .before .before .before .before .before .enum-told .given .1, eq-eqb _ _ (c .before .before .before .before .before .before .if2 .taken))
-    (rw (← c .before .before .before .before .before .cite0 .ensures, ← c .before .before .emit .ensures))
+      (rw (← c .before .before .before .before .before .cite0 .ensures, ← c .before .before .emit .ensures))
 
   ctx-requires : lts.Need-ctx-requires (claims t) (ctx-at t) ctx.Post
   ctx-requires c κs = (omega (arith, c .before .before .before .before .before .before .before .before .before .before .before .before .before .before .pre .0, c .before .before .before .before .before .before .before .before .before .before .before .if1 .left), tt)
@@ -82,7 +81,7 @@ module _ (t : ℕ) where
   returns-3 : lts.Need-returns-3 (claims t) (ctx-at t) ctx.Post
   unfolding ctx-body steps known-row known-or ctx-cons
   returns-3 c = rw (law.ctx-in _ _ _ _ (c .before .before .before .before .before .before .before .before .before .before .before .before .before .before .before .before .before .before .if1 .left), ← c .before .before .before .before .before .before .before .before .before .before .before .before .before .before .before .before .before .deeper .ensures, ← c .before .before .before .before .before .before .before .before .before .before .before .before .before .before .before .read .ensures, ← c .before .before .before .before .before .before .before .before .before .before .before .before .before .find-row .ensures, c .before .before .before .before .before .before .before .before .before .before .before .enum-told .given .1, ne-eqb _ _ (c .before .before .before .before .before .before .before .before .before .if2 .left))
-    (rw (← c .before .before .before .before .before .before .ctx .ensures, c .enum-told2 .given .1))
+      (rw (← c .before .before .before .before .before .before .ctx .ensures, c .enum-told2 .given .1))
 
   universe-requires : lts.Need-universe-requires (claims t) (ctx-at t) ctx.Post
   universe-requires c κs = (omega (arith, c .before .before .before .before .before .before .before .before .before .before .before .before .before .before .before .before .before .before .before .before .before .before .before .before .pre .0, c .before .before .before .before .before .before .before .before .before .before .before .before .before .before .before .before .before .before .before .before .before .if1 .left), tt)
@@ -105,7 +104,7 @@ module _ (t : ℕ) where
   returns-4 : lts.Need-returns-4 (claims t) (ctx-at t) ctx.Post
   unfolding ctx-body steps known-row known-or ctx-cons
   returns-4 c = rw (law.ctx-in _ _ _ _ (c .before .before .before .before .before .before .before .before .before .before .before .before .before .before .before .before .before .before .before .before .before .before .before .before .before .before .before .before .before .if1 .left), ← c .before .before .before .before .before .before .before .before .before .before .before .before .before .before .before .before .before .before .before .before .before .before .before .before .before .before .before .before .deeper .ensures, ← c .before .before .before .before .before .before .before .before .before .before .before .before .before .before .before .before .before .before .before .before .before .before .before .before .before .before .read .ensures, ← c .before .before .before .before .before .before .before .before .before .before .before .before .before .before .before .before .before .before .before .before .before .before .before .before .find-row .ensures, c .before .before .before .before .before .before .before .before .before .before .before .before .before .before .before .before .before .before .before .before .before .before .enum-told .given .1, ne-eqb _ _ (c .before .before .before .before .before .before .before .before .before .before .before .before .before .before .before .before .before .before .before .before .if2 .left))
-    (rw (← c .before .before .before .before .before .before .before .before .before .before .before .before .before .before .before .before .before .ctx .ensures, c .before .before .before .before .before .before .before .before .before .before .before .q1 .given .1, ← c .before .before .before .before .before .before .before .universe .ensures, c .as-got .ensures, c .before .enum-told3 .given .1))
+      (rw (← c .before .before .before .before .before .before .before .before .before .before .before .before .before .before .before .before .before .ctx .ensures, c .before .before .before .before .before .before .before .before .before .before .before .q1 .given .1, ← c .before .before .before .before .before .before .before .universe .ensures, c .as-got .ensures, c .before .enum-told3 .given .1))
 
   cite2-requires : lts.Need-cite2-requires (claims t) (ctx-at t) ctx.Post
   cite2-requires c κs = search needs
@@ -132,7 +131,7 @@ module _ (t : ℕ) where
   returns-6 : lts.Need-returns-6 (claims t) (ctx-at t) ctx.Post
   unfolding ctx-body steps known-row known-or ctx-cons
   returns-6 c = rw (law.ctx-in _ _ _ _ (c .before .before .before .before .before .before .before .before .before .before .before .before .before .before .before .before .before .before .before .before .before .before .before .before .before .before .before .before .before .before .before .before .before .before .before .if1 .left), ← c .before .before .before .before .before .before .before .before .before .before .before .before .before .before .before .before .before .before .before .before .before .before .before .before .before .before .before .before .before .before .before .before .before .before .deeper .ensures, ← c .before .before .before .before .before .before .before .before .before .before .before .before .before .before .before .before .before .before .before .before .before .before .before .before .before .before .before .before .before .before .before .before .read .ensures, ← c .before .before .before .before .before .before .before .before .before .before .before .before .before .before .before .before .before .before .before .before .before .before .before .before .before .before .before .before .before .before .find-row .ensures, c .before .before .before .before .before .before .before .before .before .before .before .before .before .before .before .before .before .before .before .before .before .before .before .before .before .before .before .before .enum-told .given .1, ne-eqb _ _ (c .before .before .before .before .before .before .before .before .before .before .before .before .before .before .before .before .before .before .before .before .before .before .before .before .before .before .if2 .left))
-    (rw (← c .before .before .before .before .before .before .before .before .before .before .before .before .before .before .before .before .before .before .before .before .before .before .before .ctx .ensures, c .before .before .before .before .before .before .before .before .before .before .before .before .before .before .before .before .before .q1 .given .1, ← c .before .before .before .before .before .before .before .before .before .before .before .before .before .universe .ensures, c .before .before .before .before .before .before .before .q2 .given .1, ← c .before .before .before .before .before .cite2 .ensures, ← c .before .before .emit2 .ensures))
+      (rw (← c .before .before .before .before .before .before .before .before .before .before .before .before .before .before .before .before .before .before .before .before .before .before .before .ctx .ensures, c .before .before .before .before .before .before .before .before .before .before .before .before .before .before .before .before .before .q1 .given .1, ← c .before .before .before .before .before .before .before .before .before .before .before .before .before .universe .ensures, c .before .before .before .before .before .before .before .q2 .given .1, ← c .before .before .before .before .before .cite2 .ensures, ← c .before .before .emit2 .ensures))
 
   pub part : {M : Type 1} → lts.Closed (claims t) (ctx-at t) ctx.Post M
   part = lts.spec (claims t) (ctx-at t) ctx.Post returns sub-down deeper-requires read-requires find-row-requires enum-known-i enum-told cite0-requires emit-requires same-length same-length-2 returns-2 ctx-requires enum-known-q1 enum-told-2 same-length-3 same-length-4 returns-3 universe-requires enum-known-q2 enum-told-3 as-got-requires same-length-5 same-length-6 returns-4 cite2-requires emit-requires-2 same-length-7 same-length-8 returns-5 same-length-9 same-length-10 returns-6

@@ -22,7 +22,6 @@ abbrev claims : ℕ → lts.Claims
 claims t = (deeper-reads.Asked, deeper-reads.Learnt, check-below t, check.Post, same-quote-reads.Asked, same-quote-reads.Learnt, cite1-reads.Asked, cite1-reads.Learnt, emit-eq-reads.Asked, emit-eq-reads.Learnt, normalize-below t, normalize.Post, as-got-reads.Asked, as-got-reads.Learnt, cite2-reads.Asked, cite2-reads.Learnt)
 
 module _ (t : ℕ) where
-
   returns : lts.Need-returns (claims t) (equal-at t) equal.Post
   unfolding equal-body steps equal-normal
   returns c = rw (law.equal-none _ _ _ _ _ _ _ (c .if1 .taken))
@@ -89,7 +88,7 @@ module _ (t : ℕ) where
   returns-4 : lts.Need-returns-4 (claims t) (equal-at t) equal.Post
   unfolding equal-body steps equal-normal
   returns-4 c = rw (law.equal-in _ _ _ _ _ _ _ (c .before .before .before .before .before .before .before .before .before .before .before .before .before .before .before .before .before .before .before .before .before .before .before .before .before .before .before .before .before .before .if1 .left), ← c .before .before .before .before .before .before .before .before .before .before .before .before .before .before .before .before .before .before .before .before .before .before .before .before .before .before .before .before .before .deeper .ensures, ← c .before .before .before .before .before .before .before .before .before .before .before .before .before .before .before .before .before .before .before .before .before .before .before .before .before .before .check .ensures, c .before .before .before .before .before .before .before .before .before .before .before .before .before .before .before .before .before .before .before .before .q1 .given .1, ← c .before .before .before .before .before .before .before .before .before .before .before .before .before .before .before .before .check2 .ensures, c .before .before .before .before .before .before .before .before .before .before .q2 .given .1)
-    (rw (← c .before .before .before .before .before .before .before .same-quote .ensures, c .before .before .before .before .before .before .if2 .taken, ← c .before .before .before .before .before .cite1 .ensures, ← c .before .before .emit-eq .ensures))
+      (rw (← c .before .before .before .before .before .before .before .same-quote .ensures, c .before .before .before .before .before .before .if2 .taken, ← c .before .before .before .before .before .cite1 .ensures, ← c .before .before .emit-eq .ensures))
 
   normalize-requires : lts.Need-normalize-requires (claims t) (equal-at t) equal.Post
   normalize-requires c κs = (omega (arith, c .before .before .before .before .before .before .before .before .before .before .before .before .before .before .before .before .before .before .before .before .before .before .before .before .before .before .before .before .before .pre .0, c .before .before .before .before .before .before .before .before .before .before .before .before .before .before .before .before .before .before .before .before .before .before .before .before .before .before .if1 .left), tt)
@@ -112,7 +111,7 @@ module _ (t : ℕ) where
   returns-5 : lts.Need-returns-5 (claims t) (equal-at t) equal.Post
   unfolding equal-body steps equal-normal
   returns-5 c = rw (law.equal-in _ _ _ _ _ _ _ (c .before .before .before .before .before .before .before .before .before .before .before .before .before .before .before .before .before .before .before .before .before .before .before .before .before .before .before .before .before .before .before .before .before .before .if1 .left), ← c .before .before .before .before .before .before .before .before .before .before .before .before .before .before .before .before .before .before .before .before .before .before .before .before .before .before .before .before .before .before .before .before .before .deeper .ensures, ← c .before .before .before .before .before .before .before .before .before .before .before .before .before .before .before .before .before .before .before .before .before .before .before .before .before .before .before .before .before .before .check .ensures, c .before .before .before .before .before .before .before .before .before .before .before .before .before .before .before .before .before .before .before .before .before .before .before .before .q1 .given .1, ← c .before .before .before .before .before .before .before .before .before .before .before .before .before .before .before .before .before .before .before .before .check2 .ensures, c .before .before .before .before .before .before .before .before .before .before .before .before .before .before .q2 .given .1)
-    (rw (← c .before .before .before .before .before .before .before .before .before .before .before .same-quote .ensures, c .before .before .before .before .before .before .before .before .before .before .if2 .left, ← c .before .before .before .before .before .before .before .normalize .ensures, c .as-got .ensures, c .before .enum-told3 .given .1))
+      (rw (← c .before .before .before .before .before .before .before .before .before .before .before .same-quote .ensures, c .before .before .before .before .before .before .before .before .before .before .if2 .left, ← c .before .before .before .before .before .before .before .normalize .ensures, c .as-got .ensures, c .before .enum-told3 .given .1))
 
   normalize-requires-2 : lts.Need-normalize-requires-2 (claims t) (equal-at t) equal.Post
   normalize-requires-2 c κs = (omega (arith, c .before .before .before .before .before .before .before .before .before .before .before .before .before .before .before .before .before .before .before .before .before .before .before .before .before .before .before .before .before .before .before .before .before .before .before .before .before .before .before .pre .0, c .before .before .before .before .before .before .before .before .before .before .before .before .before .before .before .before .before .before .before .before .before .before .before .before .before .before .before .before .before .before .before .before .before .before .before .before .if1 .left), tt)
@@ -135,8 +134,8 @@ module _ (t : ℕ) where
   returns-6 : lts.Need-returns-6 (claims t) (equal-at t) equal.Post
   unfolding equal-body steps equal-normal
   returns-6 c = rw (law.equal-in _ _ _ _ _ _ _ (c .before .before .before .before .before .before .before .before .before .before .before .before .before .before .before .before .before .before .before .before .before .before .before .before .before .before .before .before .before .before .before .before .before .before .before .before .before .before .before .before .before .before .before .before .if1 .left), ← c .before .before .before .before .before .before .before .before .before .before .before .before .before .before .before .before .before .before .before .before .before .before .before .before .before .before .before .before .before .before .before .before .before .before .before .before .before .before .before .before .before .before .before .deeper .ensures, ← c .before .before .before .before .before .before .before .before .before .before .before .before .before .before .before .before .before .before .before .before .before .before .before .before .before .before .before .before .before .before .before .before .before .before .before .before .before .before .before .before .check .ensures, c .before .before .before .before .before .before .before .before .before .before .before .before .before .before .before .before .before .before .before .before .before .before .before .before .before .before .before .before .before .before .before .before .before .before .q1 .given .1, ← c .before .before .before .before .before .before .before .before .before .before .before .before .before .before .before .before .before .before .before .before .before .before .before .before .before .before .before .before .before .before .check2 .ensures, c .before .before .before .before .before .before .before .before .before .before .before .before .before .before .before .before .before .before .before .before .before .before .before .before .q2 .given .1)
-    (rw (← c .before .before .before .before .before .before .before .before .before .before .before .before .before .before .before .before .before .before .before .before .before .same-quote .ensures, c .before .before .before .before .before .before .before .before .before .before .before .before .before .before .before .before .before .before .before .before .if2 .left, ← c .before .before .before .before .before .before .before .before .before .before .before .before .before .before .before .before .before .normalize .ensures, c .before .before .before .before .before .before .before .before .before .before .before .q3 .given .1, ← c .before .before .before .before .before .before .before .normalize2 .ensures, c .as-got2 .ensures)
-    (rw (c .before .enum-told4 .given .1)))
+      (rw (← c .before .before .before .before .before .before .before .before .before .before .before .before .before .before .before .before .before .before .before .before .before .same-quote .ensures, c .before .before .before .before .before .before .before .before .before .before .before .before .before .before .before .before .before .before .before .before .if2 .left, ← c .before .before .before .before .before .before .before .before .before .before .before .before .before .before .before .before .before .normalize .ensures, c .before .before .before .before .before .before .before .before .before .before .before .q3 .given .1, ← c .before .before .before .before .before .before .before .normalize2 .ensures, c .as-got2 .ensures)
+      (rw (c .before .enum-told4 .given .1)))
 
   same-quote-requires-2 : lts.Need-same-quote-requires-2 (claims t) (equal-at t) equal.Post
   same-quote-requires-2 c κs = search needs
@@ -162,8 +161,8 @@ module _ (t : ℕ) where
   returns-7 : lts.Need-returns-7 (claims t) (equal-at t) equal.Post
   unfolding equal-body steps equal-normal
   returns-7 c = rw (law.equal-in _ _ _ _ _ _ _ (c .before .before .before .before .before .before .before .before .before .before .before .before .before .before .before .before .before .before .before .before .before .before .before .before .before .before .before .before .before .before .before .before .before .before .before .before .before .before .before .before .before .before .before .before .before .before .before .before .before .before .before .before .before .before .before .if1 .left), ← c .before .before .before .before .before .before .before .before .before .before .before .before .before .before .before .before .before .before .before .before .before .before .before .before .before .before .before .before .before .before .before .before .before .before .before .before .before .before .before .before .before .before .before .before .before .before .before .before .before .before .before .before .before .before .deeper .ensures, ← c .before .before .before .before .before .before .before .before .before .before .before .before .before .before .before .before .before .before .before .before .before .before .before .before .before .before .before .before .before .before .before .before .before .before .before .before .before .before .before .before .before .before .before .before .before .before .before .before .before .before .before .check .ensures, c .before .before .before .before .before .before .before .before .before .before .before .before .before .before .before .before .before .before .before .before .before .before .before .before .before .before .before .before .before .before .before .before .before .before .before .before .before .before .before .before .before .before .before .before .before .q1 .given .1, ← c .before .before .before .before .before .before .before .before .before .before .before .before .before .before .before .before .before .before .before .before .before .before .before .before .before .before .before .before .before .before .before .before .before .before .before .before .before .before .before .before .before .check2 .ensures, c .before .before .before .before .before .before .before .before .before .before .before .before .before .before .before .before .before .before .before .before .before .before .before .before .before .before .before .before .before .before .before .before .before .before .before .q2 .given .1)
-    (rw (← c .before .before .before .before .before .before .before .before .before .before .before .before .before .before .before .before .before .before .before .before .before .before .before .before .before .before .before .before .before .before .before .before .same-quote .ensures, c .before .before .before .before .before .before .before .before .before .before .before .before .before .before .before .before .before .before .before .before .before .before .before .before .before .before .before .before .before .before .before .if2 .left, ← c .before .before .before .before .before .before .before .before .before .before .before .before .before .before .before .before .before .before .before .before .before .before .before .before .before .before .before .before .normalize .ensures, c .before .before .before .before .before .before .before .before .before .before .before .before .before .before .before .before .before .before .before .before .before .before .q3 .given .1, ← c .before .before .before .before .before .before .before .before .before .before .before .before .before .before .before .before .before .before .normalize2 .ensures, c .before .before .before .before .before .before .before .before .before .before .before .before .q4 .given .1)
-    (rw (← c .before .before .before .before .before .before .before .before .before .same-quote2 .ensures, c .before .before .before .before .before .before .before .before .if3 .taken, ← c .before .before .before .before .before .before .before .cite12 .ensures, ← c .before .before .before .before .emit-eq2 .ensures, c .enum-told5 .given .1)))
+      (rw (← c .before .before .before .before .before .before .before .before .before .before .before .before .before .before .before .before .before .before .before .before .before .before .before .before .before .before .before .before .before .before .before .before .same-quote .ensures, c .before .before .before .before .before .before .before .before .before .before .before .before .before .before .before .before .before .before .before .before .before .before .before .before .before .before .before .before .before .before .before .if2 .left, ← c .before .before .before .before .before .before .before .before .before .before .before .before .before .before .before .before .before .before .before .before .before .before .before .before .before .before .before .before .normalize .ensures, c .before .before .before .before .before .before .before .before .before .before .before .before .before .before .before .before .before .before .before .before .before .before .q3 .given .1, ← c .before .before .before .before .before .before .before .before .before .before .before .before .before .before .before .before .before .before .normalize2 .ensures, c .before .before .before .before .before .before .before .before .before .before .before .before .q4 .given .1)
+      (rw (← c .before .before .before .before .before .before .before .before .before .same-quote2 .ensures, c .before .before .before .before .before .before .before .before .if3 .taken, ← c .before .before .before .before .before .before .before .cite12 .ensures, ← c .before .before .before .before .emit-eq2 .ensures, c .enum-told5 .given .1)))
 
   cite2-requires : lts.Need-cite2-requires (claims t) (equal-at t) equal.Post
   cite2-requires c κs = search needs
@@ -180,9 +179,9 @@ module _ (t : ℕ) where
   returns-8 : lts.Need-returns-8 (claims t) (equal-at t) equal.Post
   unfolding equal-body steps equal-normal
   returns-8 c = rw (law.equal-in _ _ _ _ _ _ _ (c .before .before .before .before .before .before .before .before .before .before .before .before .before .before .before .before .before .before .before .before .before .before .before .before .before .before .before .before .before .before .before .before .before .before .before .before .before .before .before .before .before .before .before .before .before .before .before .before .before .before .before .before .before .before .before .before .before .before .before .before .before .before .if1 .left), ← c .before .before .before .before .before .before .before .before .before .before .before .before .before .before .before .before .before .before .before .before .before .before .before .before .before .before .before .before .before .before .before .before .before .before .before .before .before .before .before .before .before .before .before .before .before .before .before .before .before .before .before .before .before .before .before .before .before .before .before .before .before .deeper .ensures, ← c .before .before .before .before .before .before .before .before .before .before .before .before .before .before .before .before .before .before .before .before .before .before .before .before .before .before .before .before .before .before .before .before .before .before .before .before .before .before .before .before .before .before .before .before .before .before .before .before .before .before .before .before .before .before .before .before .before .before .check .ensures, c .before .before .before .before .before .before .before .before .before .before .before .before .before .before .before .before .before .before .before .before .before .before .before .before .before .before .before .before .before .before .before .before .before .before .before .before .before .before .before .before .before .before .before .before .before .before .before .before .before .before .before .before .q1 .given .1, ← c .before .before .before .before .before .before .before .before .before .before .before .before .before .before .before .before .before .before .before .before .before .before .before .before .before .before .before .before .before .before .before .before .before .before .before .before .before .before .before .before .before .before .before .before .before .before .before .before .check2 .ensures, c .before .before .before .before .before .before .before .before .before .before .before .before .before .before .before .before .before .before .before .before .before .before .before .before .before .before .before .before .before .before .before .before .before .before .before .before .before .before .before .before .before .before .q2 .given .1)
-    (rw (← c .before .before .before .before .before .before .before .before .before .before .before .before .before .before .before .before .before .before .before .before .before .before .before .before .before .before .before .before .before .before .before .before .before .before .before .before .before .before .before .same-quote .ensures, c .before .before .before .before .before .before .before .before .before .before .before .before .before .before .before .before .before .before .before .before .before .before .before .before .before .before .before .before .before .before .before .before .before .before .before .before .before .before .if2 .left, ← c .before .before .before .before .before .before .before .before .before .before .before .before .before .before .before .before .before .before .before .before .before .before .before .before .before .before .before .before .before .before .before .before .before .before .before .normalize .ensures, c .before .before .before .before .before .before .before .before .before .before .before .before .before .before .before .before .before .before .before .before .before .before .before .before .before .before .before .before .before .q3 .given .1, ← c .before .before .before .before .before .before .before .before .before .before .before .before .before .before .before .before .before .before .before .before .before .before .before .before .before .normalize2 .ensures, c .before .before .before .before .before .before .before .before .before .before .before .before .before .before .before .before .before .before .before .q4 .given .1)
-    (rw (← c .before .before .before .before .before .before .before .before .before .before .before .before .before .before .before .before .same-quote2 .ensures, c .before .before .before .before .before .before .before .before .before .before .before .before .before .before .before .if3 .taken, ← c .before .before .before .before .before .before .before .before .before .before .before .before .before .before .cite12 .ensures, ← c .before .before .before .before .before .before .before .before .before .before .before .emit-eq2 .ensures, c .before .before .before .before .before .before .before .q5 .given .1, ← c .before .before .before .before .before .cite2 .ensures)
-    (rw (← c .before .before .emit-eq3 .ensures))))
+      (rw (← c .before .before .before .before .before .before .before .before .before .before .before .before .before .before .before .before .before .before .before .before .before .before .before .before .before .before .before .before .before .before .before .before .before .before .before .before .before .before .before .same-quote .ensures, c .before .before .before .before .before .before .before .before .before .before .before .before .before .before .before .before .before .before .before .before .before .before .before .before .before .before .before .before .before .before .before .before .before .before .before .before .before .before .if2 .left, ← c .before .before .before .before .before .before .before .before .before .before .before .before .before .before .before .before .before .before .before .before .before .before .before .before .before .before .before .before .before .before .before .before .before .before .before .normalize .ensures, c .before .before .before .before .before .before .before .before .before .before .before .before .before .before .before .before .before .before .before .before .before .before .before .before .before .before .before .before .before .q3 .given .1, ← c .before .before .before .before .before .before .before .before .before .before .before .before .before .before .before .before .before .before .before .before .before .before .before .before .before .normalize2 .ensures, c .before .before .before .before .before .before .before .before .before .before .before .before .before .before .before .before .before .before .before .q4 .given .1)
+      (rw (← c .before .before .before .before .before .before .before .before .before .before .before .before .before .before .before .before .same-quote2 .ensures, c .before .before .before .before .before .before .before .before .before .before .before .before .before .before .before .if3 .taken, ← c .before .before .before .before .before .before .before .before .before .before .before .before .before .before .cite12 .ensures, ← c .before .before .before .before .before .before .before .before .before .before .before .emit-eq2 .ensures, c .before .before .before .before .before .before .before .q5 .given .1, ← c .before .before .before .before .before .cite2 .ensures)
+      (rw (← c .before .before .emit-eq3 .ensures))))
 
   same-length-15 : lts.Need-same-length-15 (claims t) (equal-at t) equal.Post
   same-length-15 c = omega (arith, c .before .before .before .before .before .before .before .before .before .before .before .before .before .before .before .before .before .before .before .before .before .before .before .before .before .before .before .before .before .before .before .before .before .before .before .before .before .before .before .before .before .before .before .check .kept, c .before .before .before .before .before .before .before .before .before .before .before .before .before .before .before .before .before .before .before .before .before .before .before .before .before .before .before .before .before .before .before .before .before .check2 .kept, c .before .before .before .before .before .before .before .before .before .before .before .before .before .before .before .before .before .before .before .before .normalize .kept, c .before .before .before .before .before .before .before .before .before .before .normalize2 .kept)
@@ -193,8 +192,8 @@ module _ (t : ℕ) where
   returns-9 : lts.Need-returns-9 (claims t) (equal-at t) equal.Post
   unfolding equal-body steps equal-normal
   returns-9 c = rw (law.equal-in _ _ _ _ _ _ _ (c .before .before .before .before .before .before .before .before .before .before .before .before .before .before .before .before .before .before .before .before .before .before .before .before .before .before .before .before .before .before .before .before .before .before .before .before .before .before .before .before .before .before .before .before .before .before .before .if1 .left), ← c .before .before .before .before .before .before .before .before .before .before .before .before .before .before .before .before .before .before .before .before .before .before .before .before .before .before .before .before .before .before .before .before .before .before .before .before .before .before .before .before .before .before .before .before .before .before .deeper .ensures, ← c .before .before .before .before .before .before .before .before .before .before .before .before .before .before .before .before .before .before .before .before .before .before .before .before .before .before .before .before .before .before .before .before .before .before .before .before .before .before .before .before .before .before .before .check .ensures, c .before .before .before .before .before .before .before .before .before .before .before .before .before .before .before .before .before .before .before .before .before .before .before .before .before .before .before .before .before .before .before .before .before .before .before .before .before .q1 .given .1, ← c .before .before .before .before .before .before .before .before .before .before .before .before .before .before .before .before .before .before .before .before .before .before .before .before .before .before .before .before .before .before .before .before .before .check2 .ensures, c .before .before .before .before .before .before .before .before .before .before .before .before .before .before .before .before .before .before .before .before .before .before .before .before .before .before .before .q2 .given .1)
-    (rw (← c .before .before .before .before .before .before .before .before .before .before .before .before .before .before .before .before .before .before .before .before .before .before .before .before .same-quote .ensures, c .before .before .before .before .before .before .before .before .before .before .before .before .before .before .before .before .before .before .before .before .before .before .before .if2 .left, ← c .before .before .before .before .before .before .before .before .before .before .before .before .before .before .before .before .before .before .before .before .normalize .ensures, c .before .before .before .before .before .before .before .before .before .before .before .before .before .before .q3 .given .1, ← c .before .before .before .before .before .before .before .before .before .before .normalize2 .ensures, c .before .before .before .before .q4 .given .1)
-    (rw (← c .before .same-quote2 .ensures, c .if3 .left)))
+      (rw (← c .before .before .before .before .before .before .before .before .before .before .before .before .before .before .before .before .before .before .before .before .before .before .before .before .same-quote .ensures, c .before .before .before .before .before .before .before .before .before .before .before .before .before .before .before .before .before .before .before .before .before .before .before .if2 .left, ← c .before .before .before .before .before .before .before .before .before .before .before .before .before .before .before .before .before .before .before .before .normalize .ensures, c .before .before .before .before .before .before .before .before .before .before .before .before .before .before .q3 .given .1, ← c .before .before .before .before .before .before .before .before .before .before .normalize2 .ensures, c .before .before .before .before .q4 .given .1)
+      (rw (← c .before .same-quote2 .ensures, c .if3 .left)))
 
   pub part : {M : Type 1} → lts.Closed (claims t) (equal-at t) equal.Post M
   part = lts.spec (claims t) (equal-at t) equal.Post returns sub-down deeper-requires check-requires enum-known-q1 enum-told same-length same-length-2 returns-2 check-requires-2 enum-known-q2 enum-told-2 same-length-3 same-length-4 returns-3 same-quote-requires cite1-requires emit-eq-requires same-length-5 same-length-6 returns-4 normalize-requires enum-known-q3 enum-told-3 as-got-requires same-length-7 same-length-8 returns-5 normalize-requires-2 enum-known-q4 enum-told-4 as-got-requires-2 same-length-9 same-length-10 returns-6 same-quote-requires-2 cite1-requires-2 emit-eq-requires-2 enum-known-q5 enum-told-5 same-length-11 same-length-12 returns-7 cite2-requires emit-eq-requires-3 same-length-13 same-length-14 returns-8 same-length-15 same-length-16 returns-9

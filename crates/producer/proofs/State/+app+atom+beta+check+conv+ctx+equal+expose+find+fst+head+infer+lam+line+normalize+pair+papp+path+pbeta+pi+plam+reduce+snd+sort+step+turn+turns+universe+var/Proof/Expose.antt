@@ -23,7 +23,6 @@ abbrev claims : ℕ → lts.Claims
 claims t = (deeper-reads.Asked, deeper-reads.Learnt, universe-below t, universe.Post, prepare-reads.Asked, prepare-reads.Learnt, answers-Got-as-two-reads.Asked, answers-Got-as-two-reads.Learnt, normalize-below t, normalize.Post, same-quote-reads.Asked, same-quote-reads.Learnt, check-below t, check.Post, cite3-reads.Asked, cite3-reads.Learnt, emit-has-reads.Asked, emit-has-reads.Learnt)
 
 module _ (t : ℕ) where
-
   returns : lts.Need-returns (claims t) (expose-at t) expose.Post
   unfolding expose-body steps retyped
   returns c = rw (law.expose-none _ _ _ _ _ _ _ (c .if1 .taken))
@@ -74,7 +73,7 @@ module _ (t : ℕ) where
   returns-3 : lts.Need-returns-3 (claims t) (expose-at t) expose.Post
   unfolding expose-body steps retyped
   returns-3 c = rw (law.expose-in _ _ _ _ _ _ _ (c .before .before .before .before .before .before .before .before .before .before .before .before .before .before .before .before .before .before .before .if1 .left), ← c .before .before .before .before .before .before .before .before .before .before .before .before .before .before .before .before .before .before .deeper .ensures, ← c .before .before .before .before .before .before .before .before .before .before .before .before .before .before .before .universe .ensures, c .before .before .before .before .before .before .before .before .before .q1 .given .1, ← c .before .before .before .before .before .prepare .ensures, c .as-two .ensures)
-    (rw (c .before .enum-told2 .given .1))
+      (rw (c .before .enum-told2 .given .1))
 
   normalize-requires : lts.Need-normalize-requires (claims t) (expose-at t) expose.Post
   normalize-requires c κs = (omega (arith, c .before .before .before .before .before .before .before .before .before .before .before .before .before .before .before .before .before .before .before .before .before .before .before .before .pre .0, c .before .before .before .before .before .before .before .before .before .before .before .before .before .before .before .before .before .before .before .before .before .if1 .left), tt)
@@ -94,7 +93,7 @@ module _ (t : ℕ) where
   returns-4 : lts.Need-returns-4 (claims t) (expose-at t) expose.Post
   unfolding expose-body steps retyped
   returns-4 c = rw (law.expose-in _ _ _ _ _ _ _ (c .before .before .before .before .before .before .before .before .before .before .before .before .before .before .before .before .before .before .before .before .before .before .before .before .before .before .before .before .if1 .left), ← c .before .before .before .before .before .before .before .before .before .before .before .before .before .before .before .before .before .before .before .before .before .before .before .before .before .before .before .deeper .ensures, ← c .before .before .before .before .before .before .before .before .before .before .before .before .before .before .before .before .before .before .before .before .before .before .before .before .universe .ensures, c .before .before .before .before .before .before .before .before .before .before .before .before .before .before .before .before .before .before .q1 .given .1, ← c .before .before .before .before .before .before .before .before .before .before .before .before .before .before .prepare .ensures, c .before .before .before .before .before .before .before .before .before .before .q2 .given .1)
-    (rw (← c .before .before .before .before .before .before .normalize .ensures, c .enum-told3 .given .1))
+      (rw (← c .before .before .before .before .before .before .normalize .ensures, c .enum-told3 .given .1))
 
   same-quote-requires : lts.Need-same-quote-requires (claims t) (expose-at t) expose.Post
   same-quote-requires c κs = search needs
@@ -108,7 +107,7 @@ module _ (t : ℕ) where
   returns-5 : lts.Need-returns-5 (claims t) (expose-at t) expose.Post
   unfolding expose-body steps retyped
   returns-5 c = rw (law.expose-in _ _ _ _ _ _ _ (c .before .before .before .before .before .before .before .before .before .before .before .before .before .before .before .before .before .before .before .before .before .before .before .before .before .before .before .before .before .before .before .before .if1 .left), ← c .before .before .before .before .before .before .before .before .before .before .before .before .before .before .before .before .before .before .before .before .before .before .before .before .before .before .before .before .before .before .before .deeper .ensures, ← c .before .before .before .before .before .before .before .before .before .before .before .before .before .before .before .before .before .before .before .before .before .before .before .before .before .before .before .before .universe .ensures, c .before .before .before .before .before .before .before .before .before .before .before .before .before .before .before .before .before .before .before .before .before .before .q1 .given .1, ← c .before .before .before .before .before .before .before .before .before .before .before .before .before .before .before .before .before .before .prepare .ensures, c .before .before .before .before .before .before .before .before .before .before .before .before .before .before .q2 .given .1)
-    (rw (← c .before .before .before .before .before .before .before .before .before .before .normalize .ensures, c .before .before .before .before .q3 .given .1, ← c .before .same-quote .ensures, c .if2 .taken))
+      (rw (← c .before .before .before .before .before .before .before .before .before .before .normalize .ensures, c .before .before .before .before .q3 .given .1, ← c .before .same-quote .ensures, c .if2 .taken))
 
   prepare-requires-2 : lts.Need-prepare-requires-2 (claims t) (expose-at t) expose.Post
   prepare-requires-2 c κs = search needs
@@ -131,8 +130,8 @@ module _ (t : ℕ) where
   returns-6 : lts.Need-returns-6 (claims t) (expose-at t) expose.Post
   unfolding expose-body steps retyped
   returns-6 c = rw (law.expose-in _ _ _ _ _ _ _ (c .before .before .before .before .before .before .before .before .before .before .before .before .before .before .before .before .before .before .before .before .before .before .before .before .before .before .before .before .before .before .before .before .before .before .before .before .before .before .before .before .if1 .left), ← c .before .before .before .before .before .before .before .before .before .before .before .before .before .before .before .before .before .before .before .before .before .before .before .before .before .before .before .before .before .before .before .before .before .before .before .before .before .before .before .deeper .ensures, ← c .before .before .before .before .before .before .before .before .before .before .before .before .before .before .before .before .before .before .before .before .before .before .before .before .before .before .before .before .before .before .before .before .before .before .before .before .universe .ensures, c .before .before .before .before .before .before .before .before .before .before .before .before .before .before .before .before .before .before .before .before .before .before .before .before .before .before .before .before .before .before .q1 .given .1, ← c .before .before .before .before .before .before .before .before .before .before .before .before .before .before .before .before .before .before .before .before .before .before .before .before .before .before .prepare .ensures, c .before .before .before .before .before .before .before .before .before .before .before .before .before .before .before .before .before .before .before .before .before .before .q2 .given .1)
-    (rw (← c .before .before .before .before .before .before .before .before .before .before .before .before .before .before .before .before .before .before .normalize .ensures, c .before .before .before .before .before .before .before .before .before .before .before .before .q3 .given .1, ← c .before .before .before .before .before .before .before .before .before .same-quote .ensures, c .before .before .before .before .before .before .before .before .if2 .left, ← c .before .before .before .before .before .prepare2 .ensures, c .as-two2 .ensures)
-    (rw (c .before .enum-told4 .given .1)))
+      (rw (← c .before .before .before .before .before .before .before .before .before .before .before .before .before .before .before .before .before .before .normalize .ensures, c .before .before .before .before .before .before .before .before .before .before .before .before .q3 .given .1, ← c .before .before .before .before .before .before .before .before .before .same-quote .ensures, c .before .before .before .before .before .before .before .before .if2 .left, ← c .before .before .before .before .before .prepare2 .ensures, c .as-two2 .ensures)
+      (rw (c .before .enum-told4 .given .1)))
 
   check-requires : lts.Need-check-requires (claims t) (expose-at t) expose.Post
   check-requires c κs = (omega (arith, c .before .before .before .before .before .before .before .before .before .before .before .before .before .before .before .before .before .before .before .before .before .before .before .before .before .before .before .before .before .before .before .before .before .before .before .before .before .before .before .before .before .before .before .before .before .pre .0, c .before .before .before .before .before .before .before .before .before .before .before .before .before .before .before .before .before .before .before .before .before .before .before .before .before .before .before .before .before .before .before .before .before .before .before .before .before .before .before .before .before .before .if1 .left), tt)
@@ -155,8 +154,8 @@ module _ (t : ℕ) where
   returns-7 : lts.Need-returns-7 (claims t) (expose-at t) expose.Post
   unfolding expose-body steps retyped
   returns-7 c = rw (law.expose-in _ _ _ _ _ _ _ (c .before .before .before .before .before .before .before .before .before .before .before .before .before .before .before .before .before .before .before .before .before .before .before .before .before .before .before .before .before .before .before .before .before .before .before .before .before .before .before .before .before .before .before .before .before .before .before .before .before .before .if1 .left), ← c .before .before .before .before .before .before .before .before .before .before .before .before .before .before .before .before .before .before .before .before .before .before .before .before .before .before .before .before .before .before .before .before .before .before .before .before .before .before .before .before .before .before .before .before .before .before .before .before .before .deeper .ensures, ← c .before .before .before .before .before .before .before .before .before .before .before .before .before .before .before .before .before .before .before .before .before .before .before .before .before .before .before .before .before .before .before .before .before .before .before .before .before .before .before .before .before .before .before .before .before .before .universe .ensures, c .before .before .before .before .before .before .before .before .before .before .before .before .before .before .before .before .before .before .before .before .before .before .before .before .before .before .before .before .before .before .before .before .before .before .before .before .before .before .before .before .q1 .given .1, ← c .before .before .before .before .before .before .before .before .before .before .before .before .before .before .before .before .before .before .before .before .before .before .before .before .before .before .before .before .before .before .before .before .before .before .before .before .prepare .ensures, c .before .before .before .before .before .before .before .before .before .before .before .before .before .before .before .before .before .before .before .before .before .before .before .before .before .before .before .before .before .before .before .before .q2 .given .1)
-    (rw (← c .before .before .before .before .before .before .before .before .before .before .before .before .before .before .before .before .before .before .before .before .before .before .before .before .before .before .before .before .normalize .ensures, c .before .before .before .before .before .before .before .before .before .before .before .before .before .before .before .before .before .before .before .before .before .before .q3 .given .1, ← c .before .before .before .before .before .before .before .before .before .before .before .before .before .before .before .before .before .before .before .same-quote .ensures, c .before .before .before .before .before .before .before .before .before .before .before .before .before .before .before .before .before .before .if2 .left, ← c .before .before .before .before .before .before .before .before .before .before .before .before .before .before .before .prepare2 .ensures, c .before .before .before .before .before .before .before .before .before .before .before .q4 .given .1)
-    (rw (← c .before .before .before .before .before .before .before .check .ensures, c .as-two3 .ensures, c .before .enum-told5 .given .1)))
+      (rw (← c .before .before .before .before .before .before .before .before .before .before .before .before .before .before .before .before .before .before .before .before .before .before .before .before .before .before .before .before .normalize .ensures, c .before .before .before .before .before .before .before .before .before .before .before .before .before .before .before .before .before .before .before .before .before .before .q3 .given .1, ← c .before .before .before .before .before .before .before .before .before .before .before .before .before .before .before .before .before .before .before .same-quote .ensures, c .before .before .before .before .before .before .before .before .before .before .before .before .before .before .before .before .before .before .if2 .left, ← c .before .before .before .before .before .before .before .before .before .before .before .before .before .before .before .prepare2 .ensures, c .before .before .before .before .before .before .before .before .before .before .before .q4 .given .1)
+      (rw (← c .before .before .before .before .before .before .before .check .ensures, c .as-two3 .ensures, c .before .enum-told5 .given .1)))
 
   cite3-requires : lts.Need-cite3-requires (claims t) (expose-at t) expose.Post
   cite3-requires c κs = search needs
@@ -182,8 +181,8 @@ module _ (t : ℕ) where
   returns-8 : lts.Need-returns-8 (claims t) (expose-at t) expose.Post
   unfolding expose-body steps retyped
   returns-8 c = rw (law.expose-in _ _ _ _ _ _ _ (c .before .before .before .before .before .before .before .before .before .before .before .before .before .before .before .before .before .before .before .before .before .before .before .before .before .before .before .before .before .before .before .before .before .before .before .before .before .before .before .before .before .before .before .before .before .before .before .before .before .before .before .before .before .before .before .before .before .before .before .if1 .left), ← c .before .before .before .before .before .before .before .before .before .before .before .before .before .before .before .before .before .before .before .before .before .before .before .before .before .before .before .before .before .before .before .before .before .before .before .before .before .before .before .before .before .before .before .before .before .before .before .before .before .before .before .before .before .before .before .before .before .before .deeper .ensures, ← c .before .before .before .before .before .before .before .before .before .before .before .before .before .before .before .before .before .before .before .before .before .before .before .before .before .before .before .before .before .before .before .before .before .before .before .before .before .before .before .before .before .before .before .before .before .before .before .before .before .before .before .before .before .before .before .universe .ensures, c .before .before .before .before .before .before .before .before .before .before .before .before .before .before .before .before .before .before .before .before .before .before .before .before .before .before .before .before .before .before .before .before .before .before .before .before .before .before .before .before .before .before .before .before .before .before .before .before .before .q1 .given .1, ← c .before .before .before .before .before .before .before .before .before .before .before .before .before .before .before .before .before .before .before .before .before .before .before .before .before .before .before .before .before .before .before .before .before .before .before .before .before .before .before .before .before .before .before .before .before .prepare .ensures, c .before .before .before .before .before .before .before .before .before .before .before .before .before .before .before .before .before .before .before .before .before .before .before .before .before .before .before .before .before .before .before .before .before .before .before .before .before .before .before .before .before .q2 .given .1)
-    (rw (← c .before .before .before .before .before .before .before .before .before .before .before .before .before .before .before .before .before .before .before .before .before .before .before .before .before .before .before .before .before .before .before .before .before .before .before .before .before .normalize .ensures, c .before .before .before .before .before .before .before .before .before .before .before .before .before .before .before .before .before .before .before .before .before .before .before .before .before .before .before .before .before .before .before .q3 .given .1, ← c .before .before .before .before .before .before .before .before .before .before .before .before .before .before .before .before .before .before .before .before .before .before .before .before .before .before .before .before .same-quote .ensures, c .before .before .before .before .before .before .before .before .before .before .before .before .before .before .before .before .before .before .before .before .before .before .before .before .before .before .before .if2 .left, ← c .before .before .before .before .before .before .before .before .before .before .before .before .before .before .before .before .before .before .before .before .before .before .before .before .prepare2 .ensures, c .before .before .before .before .before .before .before .before .before .before .before .before .before .before .before .before .before .before .before .before .q4 .given .1)
-    (rw (← c .before .before .before .before .before .before .before .before .before .before .before .before .before .before .before .before .check .ensures, c .before .before .before .before .before .before .before .before .before .before .q5 .given .1, ← c .before .before .before .before .before .before .before .before .cite3 .ensures, ← c .before .before .before .before .before .emit-has .ensures, c .as-two4 .ensures, c .before .enum-told6 .given .1)))
+      (rw (← c .before .before .before .before .before .before .before .before .before .before .before .before .before .before .before .before .before .before .before .before .before .before .before .before .before .before .before .before .before .before .before .before .before .before .before .before .before .normalize .ensures, c .before .before .before .before .before .before .before .before .before .before .before .before .before .before .before .before .before .before .before .before .before .before .before .before .before .before .before .before .before .before .before .q3 .given .1, ← c .before .before .before .before .before .before .before .before .before .before .before .before .before .before .before .before .before .before .before .before .before .before .before .before .before .before .before .before .same-quote .ensures, c .before .before .before .before .before .before .before .before .before .before .before .before .before .before .before .before .before .before .before .before .before .before .before .before .before .before .before .if2 .left, ← c .before .before .before .before .before .before .before .before .before .before .before .before .before .before .before .before .before .before .before .before .before .before .before .before .prepare2 .ensures, c .before .before .before .before .before .before .before .before .before .before .before .before .before .before .before .before .before .before .before .before .q4 .given .1)
+      (rw (← c .before .before .before .before .before .before .before .before .before .before .before .before .before .before .before .before .check .ensures, c .before .before .before .before .before .before .before .before .before .before .q5 .given .1, ← c .before .before .before .before .before .before .before .before .cite3 .ensures, ← c .before .before .before .before .before .emit-has .ensures, c .as-two4 .ensures, c .before .enum-told6 .given .1)))
 
   same-length-15 : lts.Need-same-length-15 (claims t) (expose-at t) expose.Post
   same-length-15 c = omega (arith, c .before .before .before .before .before .before .before .before .before .before .before .before .before .before .before .before .before .before .before .before .before .before .before .before .before .before .before .before .before .before .before .before .before .before .before .before .before .before .before .before .before .before .before .before .before .before .before .before .before .before .before .before .before .before .before .universe .kept, c .before .before .before .before .before .before .before .before .before .before .before .before .before .before .before .before .before .before .before .before .before .before .before .before .before .before .before .before .before .before .before .before .before .before .before .before .before .before .before .before .before .before .before .before .before .prepare .kept, c .before .before .before .before .before .before .before .before .before .before .before .before .before .before .before .before .before .before .before .before .before .before .before .before .before .before .before .before .before .before .before .before .before .before .before .before .before .normalize .kept, c .before .before .before .before .before .before .before .before .before .before .before .before .before .before .before .before .before .before .before .before .before .before .before .before .prepare2 .kept, c .before .before .before .before .before .before .before .before .before .before .before .before .before .before .before .before .check .kept, c .before .before .before .before .before .emit-has .kept)
@@ -194,8 +193,8 @@ module _ (t : ℕ) where
   returns-9 : lts.Need-returns-9 (claims t) (expose-at t) expose.Post
   unfolding expose-body steps retyped
   returns-9 c = rw (law.expose-in _ _ _ _ _ _ _ (c .before .before .before .before .before .before .before .before .before .before .before .before .before .before .before .before .before .before .before .before .before .before .before .before .before .before .before .before .before .before .before .before .before .before .before .before .before .before .before .before .before .before .before .before .before .before .before .before .before .before .before .before .before .before .before .before .before .before .before .if1 .left), ← c .before .before .before .before .before .before .before .before .before .before .before .before .before .before .before .before .before .before .before .before .before .before .before .before .before .before .before .before .before .before .before .before .before .before .before .before .before .before .before .before .before .before .before .before .before .before .before .before .before .before .before .before .before .before .before .before .before .before .deeper .ensures, ← c .before .before .before .before .before .before .before .before .before .before .before .before .before .before .before .before .before .before .before .before .before .before .before .before .before .before .before .before .before .before .before .before .before .before .before .before .before .before .before .before .before .before .before .before .before .before .before .before .before .before .before .before .before .before .before .universe .ensures, c .before .before .before .before .before .before .before .before .before .before .before .before .before .before .before .before .before .before .before .before .before .before .before .before .before .before .before .before .before .before .before .before .before .before .before .before .before .before .before .before .before .before .before .before .before .before .before .before .before .q1 .given .1, ← c .before .before .before .before .before .before .before .before .before .before .before .before .before .before .before .before .before .before .before .before .before .before .before .before .before .before .before .before .before .before .before .before .before .before .before .before .before .before .before .before .before .before .before .before .before .prepare .ensures, c .before .before .before .before .before .before .before .before .before .before .before .before .before .before .before .before .before .before .before .before .before .before .before .before .before .before .before .before .before .before .before .before .before .before .before .before .before .before .before .before .before .q2 .given .1)
-    (rw (← c .before .before .before .before .before .before .before .before .before .before .before .before .before .before .before .before .before .before .before .before .before .before .before .before .before .before .before .before .before .before .before .before .before .before .before .before .before .normalize .ensures, c .before .before .before .before .before .before .before .before .before .before .before .before .before .before .before .before .before .before .before .before .before .before .before .before .before .before .before .before .before .before .before .q3 .given .1, ← c .before .before .before .before .before .before .before .before .before .before .before .before .before .before .before .before .before .before .before .before .before .before .before .before .before .before .before .before .same-quote .ensures, c .before .before .before .before .before .before .before .before .before .before .before .before .before .before .before .before .before .before .before .before .before .before .before .before .before .before .before .if2 .left, ← c .before .before .before .before .before .before .before .before .before .before .before .before .before .before .before .before .before .before .before .before .before .before .before .before .prepare2 .ensures, c .before .before .before .before .before .before .before .before .before .before .before .before .before .before .before .before .before .before .before .before .q4 .given .1)
-    (rw (← c .before .before .before .before .before .before .before .before .before .before .before .before .before .before .before .before .check .ensures, c .before .before .before .before .before .before .before .before .before .before .q5 .given .1, ← c .before .before .before .before .before .before .before .before .cite3 .ensures, ← c .before .before .before .before .before .emit-has .ensures, c .before .q6 .given .1)))
+      (rw (← c .before .before .before .before .before .before .before .before .before .before .before .before .before .before .before .before .before .before .before .before .before .before .before .before .before .before .before .before .before .before .before .before .before .before .before .before .before .normalize .ensures, c .before .before .before .before .before .before .before .before .before .before .before .before .before .before .before .before .before .before .before .before .before .before .before .before .before .before .before .before .before .before .before .q3 .given .1, ← c .before .before .before .before .before .before .before .before .before .before .before .before .before .before .before .before .before .before .before .before .before .before .before .before .before .before .before .before .same-quote .ensures, c .before .before .before .before .before .before .before .before .before .before .before .before .before .before .before .before .before .before .before .before .before .before .before .before .before .before .before .if2 .left, ← c .before .before .before .before .before .before .before .before .before .before .before .before .before .before .before .before .before .before .before .before .before .before .before .before .prepare2 .ensures, c .before .before .before .before .before .before .before .before .before .before .before .before .before .before .before .before .before .before .before .before .q4 .given .1)
+      (rw (← c .before .before .before .before .before .before .before .before .before .before .before .before .before .before .before .before .check .ensures, c .before .before .before .before .before .before .before .before .before .before .q5 .given .1, ← c .before .before .before .before .before .before .before .before .cite3 .ensures, ← c .before .before .before .before .before .emit-has .ensures, c .before .q6 .given .1)))
 
   pub part : {M : Type 1} → lts.Closed (claims t) (expose-at t) expose.Post M
   part = lts.spec (claims t) (expose-at t) expose.Post returns sub-down deeper-requires universe-requires enum-known-q1 enum-told same-length same-length-2 returns-2 prepare-requires enum-known-q2 enum-told-2 as-two-requires same-length-3 same-length-4 returns-3 normalize-requires enum-known-q3 enum-told-3 same-length-5 same-length-6 returns-4 same-quote-requires same-length-7 same-length-8 returns-5 prepare-requires-2 enum-known-q4 enum-told-4 as-two-requires-2 same-length-9 same-length-10 returns-6 check-requires enum-known-q5 enum-told-5 as-two-requires-3 same-length-11 same-length-12 returns-7 cite3-requires emit-has-requires enum-known-q6 enum-told-6 as-two-requires-4 same-length-13 same-length-14 returns-8 same-length-15 same-length-16 returns-9

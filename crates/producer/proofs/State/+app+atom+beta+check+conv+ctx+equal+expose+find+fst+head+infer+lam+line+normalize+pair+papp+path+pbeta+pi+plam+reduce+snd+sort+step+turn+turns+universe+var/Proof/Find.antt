@@ -27,7 +27,6 @@ abbrev claims : ℕ → lts.Claims
 claims t = (read-reads.Asked, read-reads.Learnt, succ-reads.Asked, succ-reads.Learnt, atom-below t, atom.Post, var-below t, var.Post, pi-below t, pi.Post, lam-below t, lam.Post, app-below t, app.Post, path-below t, path.Post, plam-below t, plam.Post, pair-below t, pair.Post, fst-below t, fst.Post, snd-below t, snd.Post, papp-below t, papp.Post)
 
 module _ (t : ℕ) where
-
   read-requires : lts.Need-read-requires (claims t) (find-at t) find.Post
   read-requires c κs = search needs
 
@@ -215,8 +214,8 @@ module _ (t : ℕ) where
   returns-14 : lts.Need-returns-14 (claims t) (find-at t) find.Post
   unfolding find steps find-compound
   returns-14 c = rw (← c .before .before .before .before .before .before .before .before .read .ensures, ne-eqb _ _ (c .before .before .before .before .before .before .before .match .rest .0 .0 .0 .0 .0 .0 .0 .0 .0 .0 .0 .0 .1), ne-eqb _ _ (c .before .before .before .before .before .before .before .match .rest .0 .0 .0 .0 .0 .0 .0 .0 .0 .0 .0 .1), ne-eqb _ _ (c .before .before .before .before .before .before .before .match .rest .0 .0 .0 .0 .0 .0 .0 .0 .0 .0 .1), ne-eqb _ _ (c .before .before .before .before .before .before .before .match .rest .0 .0 .0 .0 .0 .0 .0 .0 .0 .1), ne-eqb _ _ (c .before .before .before .before .before .before .before .match .rest .0 .0 .0 .0 .0 .0 .0 .0 .1))
-    (rw (ne-eqb _ _ (c .before .before .before .before .before .before .before .match .rest .0 .0 .0 .0 .0 .0 .0 .1), ne-eqb _ _ (c .before .before .before .before .before .before .before .match .rest .0 .0 .0 .0 .0 .0 .1), ne-eqb _ _ (c .before .before .before .before .before .before .before .match .rest .0 .0 .0 .0 .0 .1), ne-eqb _ _ (c .before .before .before .before .before .before .before .match .rest .0 .0 .0 .0 .1), ne-eqb _ _ (c .before .before .before .before .before .before .before .match .rest .0 .0 .0 .1), ne-eqb _ _ (c .before .before .before .before .before .before .before .match .rest .0 .0 .1))
-    (rw (ne-eqb _ _ (c .before .before .before .before .before .before .before .match .rest .0 .1), ne-eqb _ _ (c .before .before .before .before .before .before .before .match .rest .1), ← c .before .before .before .before .papp .ensures)))
+      (rw (ne-eqb _ _ (c .before .before .before .before .before .before .before .match .rest .0 .0 .0 .0 .0 .0 .0 .1), ne-eqb _ _ (c .before .before .before .before .before .before .before .match .rest .0 .0 .0 .0 .0 .0 .1), ne-eqb _ _ (c .before .before .before .before .before .before .before .match .rest .0 .0 .0 .0 .0 .1), ne-eqb _ _ (c .before .before .before .before .before .before .before .match .rest .0 .0 .0 .0 .1), ne-eqb _ _ (c .before .before .before .before .before .before .before .match .rest .0 .0 .0 .1), ne-eqb _ _ (c .before .before .before .before .before .before .before .match .rest .0 .0 .1))
+      (rw (ne-eqb _ _ (c .before .before .before .before .before .before .before .match .rest .0 .1), ne-eqb _ _ (c .before .before .before .before .before .before .before .match .rest .1), ← c .before .before .before .before .papp .ensures)))
 
   pub part : {M : Type 1} → lts.Closed (claims t) (find-at t) find.Post M
   part = lts.spec (claims t) (find-at t) find.Post read-requires succ-requires atom-requires same-length same-length-2 returns var-requires same-length-3 same-length-4 returns-2 atom-requires-2 same-length-5 same-length-6 returns-3 atom-requires-3 same-length-7 same-length-8 returns-4 pi-requires same-length-9 same-length-10 returns-5 lam-requires same-length-11 same-length-12 returns-6 app-requires same-length-13 same-length-14 returns-7 path-requires same-length-15 same-length-16 returns-8 plam-requires same-length-17 same-length-18 returns-9 pi-requires-2 same-length-19 same-length-20 returns-10 pair-requires same-length-21 same-length-22 returns-11 fst-requires same-length-23 same-length-24 returns-12 snd-requires same-length-25 same-length-26 returns-13 papp-requires same-length-27 same-length-28 returns-14

@@ -19,7 +19,6 @@ abbrev claims : ℕ → lts.Claims
 claims t = (head-below t, head.Post, answers-Two-as-inferred-reads.Asked, answers-Two-as-inferred-reads.Learnt, shape-of-reads.Asked, shape-of-reads.Learnt, universe-below t, universe.Post, cite2-reads.Asked, cite2-reads.Learnt)
 
 module _ (t : ℕ) where
-
   head-requires : lts.Need-head-requires (claims t) (fst-at t) fst.Post
   head-requires c κs = (omega (arith, c .before .before .before .before .pre .0), tt)
 
@@ -79,7 +78,7 @@ module _ (t : ℕ) where
   returns-3 : lts.Need-returns-3 (claims t) (fst-at t) fst.Post
   unfolding find-fst steps as-sigma
   returns-3 c = rw (← c .before .before .before .before .before .before .before .before .before .before .before .before .before .before .before .before .before .before .before .before .before .before .head .ensures, c .before .before .before .before .before .before .before .before .before .before .before .before .before .before .before .before .q1 .given .1, ← c .before .before .before .before .before .before .before .before .before .before .before .before .before .shape-of .ensures, c .before .before .before .before .before .before .before .before .before .before .before .shape .given .1, ← c .before .before .before .before .before .before .before .universe .ensures, c .as-inferred2 .ensures)
-    (rw (c .before .enum-told2 .given .1))
+      (rw (c .before .enum-told2 .given .1))
 
   cite2-requires : lts.Need-cite2-requires (claims t) (fst-at t) fst.Post
   cite2-requires c κs = search needs
@@ -93,7 +92,7 @@ module _ (t : ℕ) where
   returns-4 : lts.Need-returns-4 (claims t) (fst-at t) fst.Post
   unfolding find-fst steps as-sigma
   returns-4 c = rw (← c .before .before .before .before .before .before .before .before .before .before .before .before .before .before .before .before .before .before .before .before .before .before .before .head .ensures, c .before .before .before .before .before .before .before .before .before .before .before .before .before .before .before .before .before .q1 .given .1, ← c .before .before .before .before .before .before .before .before .before .before .before .before .before .before .shape-of .ensures, c .before .before .before .before .before .before .before .before .before .before .before .before .shape .given .1, ← c .before .before .before .before .before .before .before .before .universe .ensures, c .before .before .q2 .given .1)
-    (rw (← c .cite2 .ensures))
+      (rw (← c .cite2 .ensures))
 
   pub part : {M : Type 1} → lts.Closed (claims t) (fst-at t) fst.Post M
   part = lts.spec (claims t) (fst-at t) fst.Post head-requires enum-known-q1 enum-told as-inferred-requires same-length same-length-2 returns shape-of-requires enum-known-shape same-length-3 same-length-4 returns-2 universe-requires enum-known-q2 enum-told-2 as-inferred-requires-2 same-length-5 same-length-6 returns-3 cite2-requires same-length-7 same-length-8 returns-4

@@ -20,7 +20,6 @@ abbrev claims : ℕ → lts.Claims
 claims t = (infer-below t, infer.Post, read-reads.Asked, read-reads.Learnt, converting-reads.Asked, converting-reads.Learnt, expose-below t, expose.Post, ended-two-reads.Asked, ended-two-reads.Learnt)
 
 module _ (t : ℕ) where
-
   infer-requires : lts.Need-infer-requires (claims t) (head-at t) head.Post
   infer-requires c κs = (omega (arith, c .before .before .before .before .pre .0), tt)
 
@@ -74,7 +73,7 @@ module _ (t : ℕ) where
   returns-3 : lts.Need-returns-3 (claims t) (head-at t) head.Post
   unfolding headed steps
   returns-3 c = rw (← c .before .before .before .before .before .before .before .before .before .before .before .before .before .before .before .before .before .before .before .before .before .before .before .infer .ensures, c .before .before .before .before .before .before .before .before .before .before .before .before .before .before .before .before .before .q1 .given .1, ← c .before .before .before .before .before .before .before .before .before .before .before .before .before .before .read .ensures, ne-eqb _ _ (c .before .before .before .before .before .before .before .before .before .before .before .before .if1 .left), lt-ltb _ _ (c .before .before .before .before .before .before .before .before .before .before .if2 .taken), ← c .before .before .before .before .before .before .before .before .converting .ensures)
-    (rw (← c .before .before .before .before .before .expose .ensures, law.ended-two-end, ← c .ended-two .ensures))
+      (rw (← c .before .before .before .before .before .expose .ensures, law.ended-two-end, ← c .ended-two .ensures))
 
   same-length-7 : lts.Need-same-length-7 (claims t) (head-at t) head.Post
   same-length-7 c = omega (arith, c .before .before .before .before .before .before .before .before .before .before .before .before .before .infer .kept)

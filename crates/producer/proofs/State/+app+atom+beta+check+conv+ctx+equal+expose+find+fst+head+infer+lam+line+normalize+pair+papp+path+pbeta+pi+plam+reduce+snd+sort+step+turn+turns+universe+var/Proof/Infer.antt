@@ -22,7 +22,6 @@ abbrev claims : ℕ → lts.Claims
 claims t = (deeper-reads.Asked, deeper-reads.Learnt, recall-reads.Asked, recall-reads.Learnt, find-below t, find.Post, answers-Inferred-as-two-reads.Asked, answers-Inferred-as-two-reads.Learnt, emit-has-reads.Asked, emit-has-reads.Learnt, answers-Got-as-two-reads.Asked, answers-Got-as-two-reads.Learnt, remember-reads.Asked, remember-reads.Learnt, answers-Done-as-two-reads.Asked, answers-Done-as-two-reads.Learnt)
 
 module _ (t : ℕ) where
-
   returns : lts.Need-returns (claims t) (infer-at t) infer.Post
   unfolding infer-body steps new-infer
   returns c = rw (law.infer-none _ _ _ _ _ (c .if1 .taken))
@@ -63,7 +62,7 @@ module _ (t : ℕ) where
   returns-2 : lts.Need-returns-2 (claims t) (infer-at t) infer.Post
   unfolding infer-body steps new-infer
   returns-2 c = rw (law.infer-in _ _ _ _ _ (c .before .before .before .before .before .before .before .before .before .before .before .before .before .before .before .if1 .left), ← c .before .before .before .before .before .before .before .before .before .before .before .before .before .before .deeper .ensures, ← c .before .before .before .before .before .before .before .before .before .before .before .before .recall .ensures, c .before .before .before .before .before .before .before .before .before .before .enum-told .given .1, ← c .before .before .before .before .before .before .before .find .ensures, c .as-two .ensures)
-    (rw (c .before .enum-told2 .given .1))
+      (rw (c .before .enum-told2 .given .1))
 
   emit-has-requires : lts.Need-emit-has-requires (claims t) (infer-at t) infer.Post
   emit-has-requires c κs = search needs
@@ -86,7 +85,7 @@ module _ (t : ℕ) where
   returns-3 : lts.Need-returns-3 (claims t) (infer-at t) infer.Post
   unfolding infer-body steps new-infer
   returns-3 c = rw (law.infer-in _ _ _ _ _ (c .before .before .before .before .before .before .before .before .before .before .before .before .before .before .before .before .before .before .before .before .before .before .before .if1 .left), ← c .before .before .before .before .before .before .before .before .before .before .before .before .before .before .before .before .before .before .before .before .before .before .deeper .ensures, ← c .before .before .before .before .before .before .before .before .before .before .before .before .before .before .before .before .before .before .before .before .recall .ensures, c .before .before .before .before .before .before .before .before .before .before .before .before .before .before .before .before .before .before .enum-told .given .1, ← c .before .before .before .before .before .before .before .before .before .before .before .before .before .before .before .find .ensures, c .before .before .before .before .before .before .before .before .before .q1 .given .1)
-    (rw (← c .before .before .before .before .before .emit-has .ensures, c .as-two2 .ensures, c .before .enum-told3 .given .1))
+      (rw (← c .before .before .before .before .before .emit-has .ensures, c .as-two2 .ensures, c .before .enum-told3 .given .1))
 
   remember-requires : lts.Need-remember-requires (claims t) (infer-at t) infer.Post
   remember-requires c κs = search needs
@@ -109,7 +108,7 @@ module _ (t : ℕ) where
   returns-4 : lts.Need-returns-4 (claims t) (infer-at t) infer.Post
   unfolding infer-body steps new-infer
   returns-4 c = rw (law.infer-in _ _ _ _ _ (c .before .before .before .before .before .before .before .before .before .before .before .before .before .before .before .before .before .before .before .before .before .before .before .before .before .before .before .before .before .before .before .if1 .left), ← c .before .before .before .before .before .before .before .before .before .before .before .before .before .before .before .before .before .before .before .before .before .before .before .before .before .before .before .before .before .before .deeper .ensures, ← c .before .before .before .before .before .before .before .before .before .before .before .before .before .before .before .before .before .before .before .before .before .before .before .before .before .before .before .before .recall .ensures, c .before .before .before .before .before .before .before .before .before .before .before .before .before .before .before .before .before .before .before .before .before .before .before .before .before .before .enum-told .given .1, ← c .before .before .before .before .before .before .before .before .before .before .before .before .before .before .before .before .before .before .before .before .before .before .before .find .ensures, c .before .before .before .before .before .before .before .before .before .before .before .before .before .before .before .before .before .q1 .given .1)
-    (rw (← c .before .before .before .before .before .before .before .before .before .before .before .before .before .emit-has .ensures, c .before .before .before .before .before .before .before .before .before .q2 .given .1, ← c .before .before .before .before .before .remember .ensures, c .as-two3 .ensures, c .before .enum-told4 .given .1))
+      (rw (← c .before .before .before .before .before .before .before .before .before .before .before .before .before .emit-has .ensures, c .before .before .before .before .before .before .before .before .before .q2 .given .1, ← c .before .before .before .before .before .remember .ensures, c .as-two3 .ensures, c .before .enum-told4 .given .1))
 
   same-length-7 : lts.Need-same-length-7 (claims t) (infer-at t) infer.Post
   same-length-7 c = omega (arith)
@@ -127,7 +126,7 @@ module _ (t : ℕ) where
   returns-6 : lts.Need-returns-6 (claims t) (infer-at t) infer.Post
   unfolding infer-body steps new-infer
   returns-6 c = rw (law.infer-in _ _ _ _ _ (c .before .before .before .before .before .before .before .before .before .before .before .before .before .before .before .before .before .before .before .before .before .before .before .before .before .before .before .before .before .before .before .if1 .left), ← c .before .before .before .before .before .before .before .before .before .before .before .before .before .before .before .before .before .before .before .before .before .before .before .before .before .before .before .before .before .before .deeper .ensures, ← c .before .before .before .before .before .before .before .before .before .before .before .before .before .before .before .before .before .before .before .before .before .before .before .before .before .before .before .before .recall .ensures, c .before .before .before .before .before .before .before .before .before .before .before .before .before .before .before .before .before .before .before .before .before .before .before .before .before .before .enum-told .given .1, ← c .before .before .before .before .before .before .before .before .before .before .before .before .before .before .before .before .before .before .before .before .before .before .before .find .ensures, c .before .before .before .before .before .before .before .before .before .before .before .before .before .before .before .before .before .q1 .given .1)
-    (rw (← c .before .before .before .before .before .before .before .before .before .before .before .before .before .emit-has .ensures, c .before .before .before .before .before .before .before .before .before .q2 .given .1, ← c .before .before .before .before .before .remember .ensures, c .before .q3 .given .1))
+      (rw (← c .before .before .before .before .before .before .before .before .before .before .before .before .before .emit-has .ensures, c .before .before .before .before .before .before .before .before .before .q2 .given .1, ← c .before .before .before .before .before .remember .ensures, c .before .q3 .given .1))
 
   pub part : {M : Type 1} → lts.Closed (claims t) (infer-at t) infer.Post M
   part = lts.spec (claims t) (infer-at t) infer.Post returns sub-down deeper-requires recall-requires enum-known-ty enum-told find-requires enum-known-q1 enum-told-2 as-two-requires same-length same-length-2 returns-2 emit-has-requires enum-known-q2 enum-told-3 as-two-requires-2 same-length-3 same-length-4 returns-3 remember-requires enum-known-q3 enum-told-4 as-two-requires-3 same-length-5 same-length-6 returns-4 same-length-7 returns-5 same-length-8 same-length-9 returns-6

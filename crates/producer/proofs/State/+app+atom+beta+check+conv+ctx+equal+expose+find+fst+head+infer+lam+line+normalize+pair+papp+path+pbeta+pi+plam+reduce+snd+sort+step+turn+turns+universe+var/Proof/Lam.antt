@@ -20,7 +20,6 @@ abbrev claims : ℕ → lts.Claims
 claims t = (universe-below t, universe.Post, answers-Two-as-inferred-reads.Asked, answers-Two-as-inferred-reads.Learnt, prepare-reads.Asked, prepare-reads.Learnt, answers-Got-as-inferred-reads.Asked, answers-Got-as-inferred-reads.Learnt, infer-below t, infer.Post, intern-reads.Asked, intern-reads.Learnt, cite3-reads.Asked, cite3-reads.Learnt)
 
 module _ (t : ℕ) where
-
   universe-requires : lts.Need-universe-requires (claims t) (lam-at t) lam.Post
   universe-requires c κs = (omega (arith, c .before .before .before .before .pre .0), tt)
 
@@ -86,7 +85,7 @@ module _ (t : ℕ) where
   returns-3 : lts.Need-returns-3 (claims t) (lam-at t) lam.Post
   unfolding find-lam steps
   returns-3 c = rw (← c .before .before .before .before .before .before .before .before .before .before .before .before .before .before .before .before .before .before .before .before .before .before .before .before .before .universe .ensures, c .before .before .before .before .before .before .before .before .before .before .before .before .before .before .before .before .before .before .before .q1 .given .1, ← c .before .before .before .before .before .before .before .before .before .before .before .before .before .before .before .prepare .ensures, c .before .before .before .before .before .before .before .before .before .before .before .q2 .given .1, ← c .before .before .before .before .before .before .before .infer .ensures, c .as-inferred3 .ensures)
-    (rw (c .before .enum-told3 .given .1))
+      (rw (c .before .enum-told3 .given .1))
 
   prepare-requires-2 : lts.Need-prepare-requires-2 (claims t) (lam-at t) lam.Post
   prepare-requires-2 c κs = search needs
@@ -109,7 +108,7 @@ module _ (t : ℕ) where
   returns-4 : lts.Need-returns-4 (claims t) (lam-at t) lam.Post
   unfolding find-lam steps
   returns-4 c = rw (← c .before .before .before .before .before .before .before .before .before .before .before .before .before .before .before .before .before .before .before .before .before .before .before .before .before .before .before .before .before .before .before .before .before .universe .ensures, c .before .before .before .before .before .before .before .before .before .before .before .before .before .before .before .before .before .before .before .before .before .before .before .before .before .before .before .q1 .given .1, ← c .before .before .before .before .before .before .before .before .before .before .before .before .before .before .before .before .before .before .before .before .before .before .before .prepare .ensures, c .before .before .before .before .before .before .before .before .before .before .before .before .before .before .before .before .before .before .before .q2 .given .1, ← c .before .before .before .before .before .before .before .before .before .before .before .before .before .before .before .infer .ensures, c .before .before .before .before .before .before .before .before .before .q3 .given .1)
-    (rw (← c .before .before .before .before .before .prepare2 .ensures, c .as-inferred4 .ensures, c .before .enum-told4 .given .1))
+      (rw (← c .before .before .before .before .before .prepare2 .ensures, c .as-inferred4 .ensures, c .before .enum-told4 .given .1))
 
   universe-requires-2 : lts.Need-universe-requires-2 (claims t) (lam-at t) lam.Post
   universe-requires-2 c κs = (omega (arith, c .before .before .before .before .before .before .before .before .before .before .before .before .before .before .before .before .before .before .before .before .before .before .before .before .before .before .before .before .before .before .before .before .before .before .before .before .before .before .before .before .pre .0), tt)
@@ -132,7 +131,7 @@ module _ (t : ℕ) where
   returns-5 : lts.Need-returns-5 (claims t) (lam-at t) lam.Post
   unfolding find-lam steps
   returns-5 c = rw (← c .before .before .before .before .before .before .before .before .before .before .before .before .before .before .before .before .before .before .before .before .before .before .before .before .before .before .before .before .before .before .before .before .before .before .before .before .before .before .before .before .before .before .before .universe .ensures, c .before .before .before .before .before .before .before .before .before .before .before .before .before .before .before .before .before .before .before .before .before .before .before .before .before .before .before .before .before .before .before .before .before .before .before .before .before .q1 .given .1, ← c .before .before .before .before .before .before .before .before .before .before .before .before .before .before .before .before .before .before .before .before .before .before .before .before .before .before .before .before .before .before .before .before .before .prepare .ensures, c .before .before .before .before .before .before .before .before .before .before .before .before .before .before .before .before .before .before .before .before .before .before .before .before .before .before .before .before .before .q2 .given .1, ← c .before .before .before .before .before .before .before .before .before .before .before .before .before .before .before .before .before .before .before .before .before .before .before .before .before .infer .ensures, c .before .before .before .before .before .before .before .before .before .before .before .before .before .before .before .before .before .before .before .q3 .given .1)
-    (rw (← c .before .before .before .before .before .before .before .before .before .before .before .before .before .before .before .prepare2 .ensures, c .before .before .before .before .before .before .before .before .before .before .before .q4 .given .1, ← c .before .before .before .before .before .before .before .universe2 .ensures, c .as-inferred5 .ensures, c .before .enum-told5 .given .1))
+      (rw (← c .before .before .before .before .before .before .before .before .before .before .before .before .before .before .before .prepare2 .ensures, c .before .before .before .before .before .before .before .before .before .before .before .q4 .given .1, ← c .before .before .before .before .before .before .before .universe2 .ensures, c .as-inferred5 .ensures, c .before .enum-told5 .given .1))
 
   intern-requires : lts.Need-intern-requires (claims t) (lam-at t) lam.Post
   intern-requires c κs = search needs
@@ -155,8 +154,8 @@ module _ (t : ℕ) where
   returns-6 : lts.Need-returns-6 (claims t) (lam-at t) lam.Post
   unfolding find-lam steps
   returns-6 c = rw (← c .before .before .before .before .before .before .before .before .before .before .before .before .before .before .before .before .before .before .before .before .before .before .before .before .before .before .before .before .before .before .before .before .before .before .before .before .before .before .before .before .before .before .before .before .before .before .before .before .before .before .before .universe .ensures, c .before .before .before .before .before .before .before .before .before .before .before .before .before .before .before .before .before .before .before .before .before .before .before .before .before .before .before .before .before .before .before .before .before .before .before .before .before .before .before .before .before .before .before .before .before .q1 .given .1, ← c .before .before .before .before .before .before .before .before .before .before .before .before .before .before .before .before .before .before .before .before .before .before .before .before .before .before .before .before .before .before .before .before .before .before .before .before .before .before .before .before .before .prepare .ensures, c .before .before .before .before .before .before .before .before .before .before .before .before .before .before .before .before .before .before .before .before .before .before .before .before .before .before .before .before .before .before .before .before .before .before .before .before .before .q2 .given .1, ← c .before .before .before .before .before .before .before .before .before .before .before .before .before .before .before .before .before .before .before .before .before .before .before .before .before .before .before .before .before .before .before .before .before .infer .ensures, c .before .before .before .before .before .before .before .before .before .before .before .before .before .before .before .before .before .before .before .before .before .before .before .before .before .before .before .q3 .given .1)
-    (rw (← c .before .before .before .before .before .before .before .before .before .before .before .before .before .before .before .before .before .before .before .before .before .before .before .prepare2 .ensures, c .before .before .before .before .before .before .before .before .before .before .before .before .before .before .before .before .before .before .before .q4 .given .1, ← c .before .before .before .before .before .before .before .before .before .before .before .before .before .before .before .universe2 .ensures, c .before .before .before .before .before .before .before .before .before .q5 .given .1, ← c .before .before .before .before .before .intern .ensures, c .as-inferred6 .ensures)
-    (rw (c .before .enum-told6 .given .1)))
+      (rw (← c .before .before .before .before .before .before .before .before .before .before .before .before .before .before .before .before .before .before .before .before .before .before .before .prepare2 .ensures, c .before .before .before .before .before .before .before .before .before .before .before .before .before .before .before .before .before .before .before .q4 .given .1, ← c .before .before .before .before .before .before .before .before .before .before .before .before .before .before .before .universe2 .ensures, c .before .before .before .before .before .before .before .before .before .q5 .given .1, ← c .before .before .before .before .before .intern .ensures, c .as-inferred6 .ensures)
+      (rw (c .before .enum-told6 .given .1)))
 
   cite3-requires : lts.Need-cite3-requires (claims t) (lam-at t) lam.Post
   cite3-requires c κs = search needs
@@ -170,8 +169,8 @@ module _ (t : ℕ) where
   returns-7 : lts.Need-returns-7 (claims t) (lam-at t) lam.Post
   unfolding find-lam steps
   returns-7 c = rw (← c .before .before .before .before .before .before .before .before .before .before .before .before .before .before .before .before .before .before .before .before .before .before .before .before .before .before .before .before .before .before .before .before .before .before .before .before .before .before .before .before .before .before .before .before .before .before .before .before .before .before .before .before .universe .ensures, c .before .before .before .before .before .before .before .before .before .before .before .before .before .before .before .before .before .before .before .before .before .before .before .before .before .before .before .before .before .before .before .before .before .before .before .before .before .before .before .before .before .before .before .before .before .before .q1 .given .1, ← c .before .before .before .before .before .before .before .before .before .before .before .before .before .before .before .before .before .before .before .before .before .before .before .before .before .before .before .before .before .before .before .before .before .before .before .before .before .before .before .before .before .before .prepare .ensures, c .before .before .before .before .before .before .before .before .before .before .before .before .before .before .before .before .before .before .before .before .before .before .before .before .before .before .before .before .before .before .before .before .before .before .before .before .before .before .q2 .given .1, ← c .before .before .before .before .before .before .before .before .before .before .before .before .before .before .before .before .before .before .before .before .before .before .before .before .before .before .before .before .before .before .before .before .before .before .infer .ensures, c .before .before .before .before .before .before .before .before .before .before .before .before .before .before .before .before .before .before .before .before .before .before .before .before .before .before .before .before .q3 .given .1)
-    (rw (← c .before .before .before .before .before .before .before .before .before .before .before .before .before .before .before .before .before .before .before .before .before .before .before .before .prepare2 .ensures, c .before .before .before .before .before .before .before .before .before .before .before .before .before .before .before .before .before .before .before .before .q4 .given .1, ← c .before .before .before .before .before .before .before .before .before .before .before .before .before .before .before .before .universe2 .ensures, c .before .before .before .before .before .before .before .before .before .before .q5 .given .1, ← c .before .before .before .before .before .before .intern .ensures, c .before .before .q6 .given .1)
-    (rw (← c .cite3 .ensures)))
+      (rw (← c .before .before .before .before .before .before .before .before .before .before .before .before .before .before .before .before .before .before .before .before .before .before .before .before .prepare2 .ensures, c .before .before .before .before .before .before .before .before .before .before .before .before .before .before .before .before .before .before .before .before .q4 .given .1, ← c .before .before .before .before .before .before .before .before .before .before .before .before .before .before .before .before .universe2 .ensures, c .before .before .before .before .before .before .before .before .before .before .q5 .given .1, ← c .before .before .before .before .before .before .intern .ensures, c .before .before .q6 .given .1)
+      (rw (← c .cite3 .ensures)))
 
   pub part : {M : Type 1} → lts.Closed (claims t) (lam-at t) lam.Post M
   part = lts.spec (claims t) (lam-at t) lam.Post universe-requires enum-known-q1 enum-told as-inferred-requires same-length same-length-2 returns prepare-requires enum-known-q2 enum-told-2 as-inferred-requires-2 same-length-3 same-length-4 returns-2 infer-requires enum-known-q3 enum-told-3 as-inferred-requires-3 same-length-5 same-length-6 returns-3 prepare-requires-2 enum-known-q4 enum-told-4 as-inferred-requires-4 same-length-7 same-length-8 returns-4 universe-requires-2 enum-known-q5 enum-told-5 as-inferred-requires-5 same-length-9 same-length-10 returns-5 intern-requires enum-known-q6 enum-told-6 as-inferred-requires-6 same-length-11 same-length-12 returns-6 cite3-requires same-length-13 same-length-14 returns-7

@@ -23,7 +23,6 @@ abbrev claims : ℕ → lts.Claims
 claims t = (head-below t, head.Post, answers-Two-as-reduced-reads.Asked, answers-Two-as-reduced-reads.Learnt, shape-of-reads.Asked, shape-of-reads.Learnt, transform-reads.Asked, transform-reads.Learnt, pbeta-below t, pbeta.Post, read-reads.Asked, read-reads.Learnt, step-below t, step.Post)
 
 module _ (t : ℕ) where
-
   head-requires : lts.Need-head-requires (claims t) (line-at t) line.Post
   head-requires c κs = (omega (arith, c .before .before .before .before .pre .0), tt)
 
@@ -83,7 +82,7 @@ module _ (t : ℕ) where
   returns-3 : lts.Need-returns-3 (claims t) (line-at t) line.Post
   unfolding reduce-papp steps at-ends as-path
   returns-3 c = rw (← c .before .before .before .before .before .before .before .before .before .before .before .before .before .before .before .before .before .before .before .before .before .before .head .ensures, c .before .before .before .before .before .before .before .before .before .before .before .before .before .before .before .before .q1 .given .1, ← c .before .before .before .before .before .before .before .before .before .before .before .before .before .shape-of .ensures, c .before .before .before .before .before .before .before .before .before .before .before .sides .given .1, ← c .before .before .before .before .before .before .before .transform .ensures, c .as-reduced2 .ensures)
-    (rw (c .before .enum-told2 .given .1))
+      (rw (c .before .enum-told2 .given .1))
 
   shape-of-requires-2 : lts.Need-shape-of-requires-2 (claims t) (line-at t) line.Post
   shape-of-requires-2 c κs = search needs
@@ -103,7 +102,7 @@ module _ (t : ℕ) where
   returns-4 : lts.Need-returns-4 (claims t) (line-at t) line.Post
   unfolding reduce-papp steps at-ends as-path
   returns-4 c = rw (← c .before .before .before .before .before .before .before .before .before .before .before .before .before .before .before .before .before .before .before .before .before .before .before .before .before .before .before .before .before .before .before .before .before .before .head .ensures, c .before .before .before .before .before .before .before .before .before .before .before .before .before .before .before .before .before .before .before .before .before .before .before .before .before .before .before .before .q1 .given .1, ← c .before .before .before .before .before .before .before .before .before .before .before .before .before .before .before .before .before .before .before .before .before .before .before .before .before .shape-of .ensures, c .before .before .before .before .before .before .before .before .before .before .before .before .before .before .before .before .before .before .before .before .before .before .before .sides .given .1, ← c .before .before .before .before .before .before .before .before .before .before .before .before .before .before .before .before .before .before .before .transform .ensures, c .before .before .before .before .before .before .before .before .before .before .before .before .before .q2 .given .1)
-    (rw (← c .before .before .before .before .before .before .before .before .before .before .shape-of2 .ensures, c .before .before .before .before .before .before .before .before .shape .given .1, ← c .before .before .before .before .pbeta .ensures))
+      (rw (← c .before .before .before .before .before .before .before .before .before .before .shape-of2 .ensures, c .before .before .before .before .before .before .before .before .shape .given .1, ← c .before .before .before .before .pbeta .ensures))
 
   read-requires : lts.Need-read-requires (claims t) (line-at t) line.Post
   read-requires c κs = search needs
@@ -120,7 +119,7 @@ module _ (t : ℕ) where
   returns-5 : lts.Need-returns-5 (claims t) (line-at t) line.Post
   unfolding reduce-papp steps at-ends as-path
   returns-5 c = rw (← c .before .before .before .before .before .before .before .before .before .before .before .before .before .before .before .before .before .before .before .before .before .before .before .before .before .before .before .before .before .before .before .before .before .before .before .head .ensures, c .before .before .before .before .before .before .before .before .before .before .before .before .before .before .before .before .before .before .before .before .before .before .before .before .before .before .before .before .before .q1 .given .1, ← c .before .before .before .before .before .before .before .before .before .before .before .before .before .before .before .before .before .before .before .before .before .before .before .before .before .before .shape-of .ensures, c .before .before .before .before .before .before .before .before .before .before .before .before .before .before .before .before .before .before .before .before .before .before .before .before .sides .given .1, ← c .before .before .before .before .before .before .before .before .before .before .before .before .before .before .before .before .before .before .before .before .transform .ensures, c .before .before .before .before .before .before .before .before .before .before .before .before .before .before .q2 .given .1)
-    (rw (← c .before .before .before .before .before .before .before .before .before .before .before .shape-of2 .ensures, law.not-plam _ (c .before .before .before .before .before .before .before .before .before .before .match4 .keys2), ← c .before .before .before .before .before .before .before .before .read .ensures, c .before .before .before .before .before .before .before .match5 .keys1, ← c .before .before .before .before .step .ensures))
+      (rw (← c .before .before .before .before .before .before .before .before .before .before .before .shape-of2 .ensures, law.not-plam _ (c .before .before .before .before .before .before .before .before .before .before .match4 .keys2), ← c .before .before .before .before .before .before .before .before .read .ensures, c .before .before .before .before .before .before .before .match5 .keys1, ← c .before .before .before .before .step .ensures))
 
   step-requires-2 : lts.Need-step-requires-2 (claims t) (line-at t) line.Post
   step-requires-2 c κs = (omega (arith, c .before .before .before .before .before .before .before .before .before .before .before .before .before .before .before .before .before .before .before .before .before .before .before .before .before .before .before .before .before .before .before .before .before .before .before .pre .0), tt)
@@ -134,7 +133,7 @@ module _ (t : ℕ) where
   returns-6 : lts.Need-returns-6 (claims t) (line-at t) line.Post
   unfolding reduce-papp steps at-ends as-path
   returns-6 c = rw (← c .before .before .before .before .before .before .before .before .before .before .before .before .before .before .before .before .before .before .before .before .before .before .before .before .before .before .before .before .before .before .before .before .before .before .before .head .ensures, c .before .before .before .before .before .before .before .before .before .before .before .before .before .before .before .before .before .before .before .before .before .before .before .before .before .before .before .before .before .q1 .given .1, ← c .before .before .before .before .before .before .before .before .before .before .before .before .before .before .before .before .before .before .before .before .before .before .before .before .before .before .shape-of .ensures, c .before .before .before .before .before .before .before .before .before .before .before .before .before .before .before .before .before .before .before .before .before .before .before .before .sides .given .1, ← c .before .before .before .before .before .before .before .before .before .before .before .before .before .before .before .before .before .before .before .before .transform .ensures, c .before .before .before .before .before .before .before .before .before .before .before .before .before .before .q2 .given .1)
-    (rw (← c .before .before .before .before .before .before .before .before .before .before .before .shape-of2 .ensures, law.not-plam _ (c .before .before .before .before .before .before .before .before .before .before .match4 .keys2), ← c .before .before .before .before .before .before .before .before .read .ensures, c .before .before .before .before .before .before .before .match5 .keys2, ← c .before .before .before .before .step2 .ensures))
+      (rw (← c .before .before .before .before .before .before .before .before .before .before .before .shape-of2 .ensures, law.not-plam _ (c .before .before .before .before .before .before .before .before .before .before .match4 .keys2), ← c .before .before .before .before .before .before .before .before .read .ensures, c .before .before .before .before .before .before .before .match5 .keys2, ← c .before .before .before .before .step2 .ensures))
 
   same-length-13 : lts.Need-same-length-13 (claims t) (line-at t) line.Post
   same-length-13 c = omega (arith, c .before .before .before .before .before .before .before .before .before .before .before .before .before .before .before .before .before .before .before .before .before .before .before .before .before .before .before .before .head .kept, c .before .before .before .before .before .before .before .before .before .before .before .before .before .transform .kept)
@@ -145,7 +144,7 @@ module _ (t : ℕ) where
   returns-7 : lts.Need-returns-7 (claims t) (line-at t) line.Post
   unfolding reduce-papp steps at-ends as-path
   returns-7 c = rw (← c .before .before .before .before .before .before .before .before .before .before .before .before .before .before .before .before .before .before .before .before .before .before .before .before .before .before .before .before .head .ensures, c .before .before .before .before .before .before .before .before .before .before .before .before .before .before .before .before .before .before .before .before .before .before .q1 .given .1, ← c .before .before .before .before .before .before .before .before .before .before .before .before .before .before .before .before .before .before .before .shape-of .ensures, c .before .before .before .before .before .before .before .before .before .before .before .before .before .before .before .before .before .sides .given .1, ← c .before .before .before .before .before .before .before .before .before .before .before .before .before .transform .ensures, c .before .before .before .before .before .before .before .q2 .given .1)
-    (rw (← c .before .before .before .before .shape-of2 .ensures, law.not-plam _ (c .before .before .before .match4 .keys2), ← c .before .read .ensures, ne-eqb _ _ (c .match5 .rest .0 .1), ne-eqb _ _ (c .match5 .rest .1)))
+      (rw (← c .before .before .before .before .shape-of2 .ensures, law.not-plam _ (c .before .before .before .match4 .keys2), ← c .before .read .ensures, ne-eqb _ _ (c .match5 .rest .0 .1), ne-eqb _ _ (c .match5 .rest .1)))
 
   pub part : {M : Type 1} → lts.Closed (claims t) (line-at t) line.Post M
   part = lts.spec (claims t) (line-at t) line.Post head-requires enum-known-q1 enum-told as-reduced-requires same-length same-length-2 returns shape-of-requires enum-known-sides same-length-3 same-length-4 returns-2 transform-requires enum-known-q2 enum-told-2 as-reduced-requires-2 same-length-5 same-length-6 returns-3 shape-of-requires-2 enum-known-shape pbeta-requires same-length-7 same-length-8 returns-4 read-requires step-requires same-length-9 same-length-10 returns-5 step-requires-2 same-length-11 same-length-12 returns-6 same-length-13 same-length-14 returns-7

@@ -20,7 +20,6 @@ abbrev claims : ℕ → lts.Claims
 claims t = (deeper-reads.Asked, deeper-reads.Learnt, check-below t, check.Post, answers-Got-as-two-reads.Asked, answers-Got-as-two-reads.Learnt, cite1-reads.Asked, cite1-reads.Learnt, emit-eq-reads.Asked, emit-eq-reads.Learnt, turns-below t, turns.Post)
 
 module _ (t : ℕ) where
-
   returns : lts.Need-returns (claims t) (normalize-at t) normalize.Post
   unfolding normalize-body steps
   returns c = rw (law.normalize-none _ _ _ _ _ _ (c .if1 .taken))
@@ -77,7 +76,7 @@ module _ (t : ℕ) where
   returns-3 : lts.Need-returns-3 (claims t) (normalize-at t) normalize.Post
   unfolding normalize-body steps
   returns-3 c = rw (law.normalize-in _ _ _ _ _ _ (c .before .before .before .before .before .before .before .before .before .before .before .before .before .before .before .before .before .before .before .before .if1 .left), ← c .before .before .before .before .before .before .before .before .before .before .before .before .before .before .before .before .before .before .before .deeper .ensures, ← c .before .before .before .before .before .before .before .before .before .before .before .before .before .before .before .before .check .ensures, c .before .before .before .before .before .before .before .before .before .before .q1 .given .1, ← c .before .before .before .before .before .before .before .before .cite1 .ensures, ← c .before .before .before .before .before .emit-eq .ensures)
-    (rw (c .as-two2 .ensures, c .before .enum-told2 .given .1))
+      (rw (c .as-two2 .ensures, c .before .enum-told2 .given .1))
 
   turns-requires : lts.Need-turns-requires (claims t) (normalize-at t) normalize.Post
   turns-requires c κs = (omega (arith, c .before .before .before .before .before .before .before .before .before .before .before .before .before .before .before .before .before .before .before .before .before .before .before .before .before .pre .0, c .before .before .before .before .before .before .before .before .before .before .before .before .before .before .before .before .before .before .before .before .before .before .if1 .left), tt)
@@ -91,7 +90,7 @@ module _ (t : ℕ) where
   returns-4 : lts.Need-returns-4 (claims t) (normalize-at t) normalize.Post
   unfolding normalize-body steps
   returns-4 c = rw (law.normalize-in _ _ _ _ _ _ (c .before .before .before .before .before .before .before .before .before .before .before .before .before .before .before .before .before .before .before .before .before .before .before .before .before .before .before .if1 .left), ← c .before .before .before .before .before .before .before .before .before .before .before .before .before .before .before .before .before .before .before .before .before .before .before .before .before .before .deeper .ensures, ← c .before .before .before .before .before .before .before .before .before .before .before .before .before .before .before .before .before .before .before .before .before .before .before .check .ensures, c .before .before .before .before .before .before .before .before .before .before .before .before .before .before .before .before .before .q1 .given .1, ← c .before .before .before .before .before .before .before .before .before .before .before .before .before .before .before .cite1 .ensures, ← c .before .before .before .before .before .before .before .before .before .before .before .before .emit-eq .ensures)
-    (rw (c .before .before .before .before .before .before .before .before .q2 .given .1, ← c .before .before .before .before .turns .ensures))
+      (rw (c .before .before .before .before .before .before .before .before .q2 .given .1, ← c .before .before .before .before .turns .ensures))
 
   pub part : {M : Type 1} → lts.Closed (claims t) (normalize-at t) normalize.Post M
   part = lts.spec (claims t) (normalize-at t) normalize.Post returns sub-down deeper-requires check-requires enum-known-q1 enum-told as-two-requires same-length same-length-2 returns-2 cite1-requires emit-eq-requires enum-known-q2 enum-told-2 as-two-requires-2 same-length-3 same-length-4 returns-3 turns-requires same-length-5 same-length-6 returns-4

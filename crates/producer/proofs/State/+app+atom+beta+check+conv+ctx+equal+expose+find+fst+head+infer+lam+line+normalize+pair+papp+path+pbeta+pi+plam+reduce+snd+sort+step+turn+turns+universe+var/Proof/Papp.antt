@@ -22,7 +22,6 @@ abbrev claims : ℕ → lts.Claims
 claims t = (head-below t, head.Post, answers-Two-as-inferred-reads.Asked, answers-Two-as-inferred-reads.Learnt, shape-of-reads.Asked, shape-of-reads.Learnt, interval-reads.Asked, interval-reads.Learnt, answers-Got-as-inferred-reads.Asked, answers-Got-as-inferred-reads.Learnt, transform-reads.Asked, transform-reads.Learnt, universe-below t, universe.Post, cite4-reads.Asked, cite4-reads.Learnt)
 
 module _ (t : ℕ) where
-
   head-requires : lts.Need-head-requires (claims t) (papp-at t) papp.Post
   head-requires c κs = (omega (arith, c .before .before .before .before .pre .0), tt)
 
@@ -82,7 +81,7 @@ module _ (t : ℕ) where
   returns-3 : lts.Need-returns-3 (claims t) (papp-at t) papp.Post
   unfolding find-papp steps as-path
   returns-3 c = rw (← c .before .before .before .before .before .before .before .before .before .before .before .before .before .before .before .before .before .before .before .before .head .ensures, c .before .before .before .before .before .before .before .before .before .before .before .before .before .before .q1 .given .1, ← c .before .before .before .before .before .before .before .before .before .before .before .shape-of .ensures, c .before .before .before .before .before .before .before .before .before .shape .given .1, ← c .before .before .before .before .before .interval .ensures, c .as-inferred2 .ensures)
-    (rw (c .before .enum-told2 .given .1))
+      (rw (c .before .enum-told2 .given .1))
 
   transform-requires : lts.Need-transform-requires (claims t) (papp-at t) papp.Post
   transform-requires c κs = search needs
@@ -105,7 +104,7 @@ module _ (t : ℕ) where
   returns-4 : lts.Need-returns-4 (claims t) (papp-at t) papp.Post
   unfolding find-papp steps as-path
   returns-4 c = rw (← c .before .before .before .before .before .before .before .before .before .before .before .before .before .before .before .before .before .before .before .before .before .before .before .before .before .before .before .before .before .before .head .ensures, c .before .before .before .before .before .before .before .before .before .before .before .before .before .before .before .before .before .before .before .before .before .before .before .before .q1 .given .1, ← c .before .before .before .before .before .before .before .before .before .before .before .before .before .before .before .before .before .before .before .before .before .shape-of .ensures, c .before .before .before .before .before .before .before .before .before .before .before .before .before .before .before .before .before .before .before .shape .given .1, ← c .before .before .before .before .before .before .before .before .before .before .before .before .before .before .before .interval .ensures, c .before .before .before .before .before .before .before .before .before .before .before .q2 .given .1)
-    (rw (← c .before .before .before .before .before .before .before .transform .ensures, c .as-inferred3 .ensures, c .before .enum-told3 .given .1))
+      (rw (← c .before .before .before .before .before .before .before .transform .ensures, c .as-inferred3 .ensures, c .before .enum-told3 .given .1))
 
   universe-requires : lts.Need-universe-requires (claims t) (papp-at t) papp.Post
   universe-requires c κs = (omega (arith, c .before .before .before .before .before .before .before .before .before .before .before .before .before .before .before .before .before .before .before .before .before .before .before .before .before .before .before .before .before .before .before .before .before .before .before .before .before .pre .0), tt)
@@ -128,7 +127,7 @@ module _ (t : ℕ) where
   returns-5 : lts.Need-returns-5 (claims t) (papp-at t) papp.Post
   unfolding find-papp steps as-path
   returns-5 c = rw (← c .before .before .before .before .before .before .before .before .before .before .before .before .before .before .before .before .before .before .before .before .before .before .before .before .before .before .before .before .before .before .before .before .before .before .before .before .before .before .before .before .head .ensures, c .before .before .before .before .before .before .before .before .before .before .before .before .before .before .before .before .before .before .before .before .before .before .before .before .before .before .before .before .before .before .before .before .before .before .q1 .given .1, ← c .before .before .before .before .before .before .before .before .before .before .before .before .before .before .before .before .before .before .before .before .before .before .before .before .before .before .before .before .before .before .before .shape-of .ensures, c .before .before .before .before .before .before .before .before .before .before .before .before .before .before .before .before .before .before .before .before .before .before .before .before .before .before .before .before .before .shape .given .1, ← c .before .before .before .before .before .before .before .before .before .before .before .before .before .before .before .before .before .before .before .before .before .before .before .before .before .interval .ensures, c .before .before .before .before .before .before .before .before .before .before .before .before .before .before .before .before .before .before .before .before .before .q2 .given .1)
-    (rw (← c .before .before .before .before .before .before .before .before .before .before .before .before .before .before .before .before .before .transform .ensures, c .before .before .before .before .before .before .before .before .before .before .before .q3 .given .1, ← c .before .before .before .before .before .before .before .universe .ensures, c .as-inferred4 .ensures, c .before .enum-told4 .given .1))
+      (rw (← c .before .before .before .before .before .before .before .before .before .before .before .before .before .before .before .before .before .transform .ensures, c .before .before .before .before .before .before .before .before .before .before .before .q3 .given .1, ← c .before .before .before .before .before .before .before .universe .ensures, c .as-inferred4 .ensures, c .before .enum-told4 .given .1))
 
   cite4-requires : lts.Need-cite4-requires (claims t) (papp-at t) papp.Post
   cite4-requires c κs = search needs
@@ -142,7 +141,7 @@ module _ (t : ℕ) where
   returns-6 : lts.Need-returns-6 (claims t) (papp-at t) papp.Post
   unfolding find-papp steps as-path
   returns-6 c = rw (← c .before .before .before .before .before .before .before .before .before .before .before .before .before .before .before .before .before .before .before .before .before .before .before .before .before .before .before .before .before .before .before .before .before .before .before .before .before .before .before .before .before .head .ensures, c .before .before .before .before .before .before .before .before .before .before .before .before .before .before .before .before .before .before .before .before .before .before .before .before .before .before .before .before .before .before .before .before .before .before .before .q1 .given .1, ← c .before .before .before .before .before .before .before .before .before .before .before .before .before .before .before .before .before .before .before .before .before .before .before .before .before .before .before .before .before .before .before .before .shape-of .ensures, c .before .before .before .before .before .before .before .before .before .before .before .before .before .before .before .before .before .before .before .before .before .before .before .before .before .before .before .before .before .before .shape .given .1, ← c .before .before .before .before .before .before .before .before .before .before .before .before .before .before .before .before .before .before .before .before .before .before .before .before .before .before .interval .ensures, c .before .before .before .before .before .before .before .before .before .before .before .before .before .before .before .before .before .before .before .before .before .before .q2 .given .1)
-    (rw (← c .before .before .before .before .before .before .before .before .before .before .before .before .before .before .before .before .before .before .transform .ensures, c .before .before .before .before .before .before .before .before .before .before .before .before .q3 .given .1, ← c .before .before .before .before .before .before .before .before .universe .ensures, c .before .before .q4 .given .1, ← c .cite4 .ensures))
+      (rw (← c .before .before .before .before .before .before .before .before .before .before .before .before .before .before .before .before .before .before .transform .ensures, c .before .before .before .before .before .before .before .before .before .before .before .before .q3 .given .1, ← c .before .before .before .before .before .before .before .before .universe .ensures, c .before .before .q4 .given .1, ← c .cite4 .ensures))
 
   pub part : {M : Type 1} → lts.Closed (claims t) (papp-at t) papp.Post M
   part = lts.spec (claims t) (papp-at t) papp.Post head-requires enum-known-q1 enum-told as-inferred-requires same-length same-length-2 returns shape-of-requires enum-known-shape same-length-3 same-length-4 returns-2 interval-requires enum-known-q2 enum-told-2 as-inferred-requires-2 same-length-5 same-length-6 returns-3 transform-requires enum-known-q3 enum-told-3 as-inferred-requires-3 same-length-7 same-length-8 returns-4 universe-requires enum-known-q4 enum-told-4 as-inferred-requires-4 same-length-9 same-length-10 returns-5 cite4-requires same-length-11 same-length-12 returns-6

@@ -20,7 +20,6 @@ abbrev claims : ℕ → lts.Claims
 claims t = (interval-reads.Asked, interval-reads.Learnt, answers-Got-as-reduced-reads.Asked, answers-Got-as-reduced-reads.Learnt, transform-reads.Asked, transform-reads.Learnt, answers-Two-as-reduced-reads.Asked, answers-Two-as-reduced-reads.Learnt, check-below t, check.Post, cite5-reads.Asked, cite5-reads.Learnt, emit-eq-reads.Asked, emit-eq-reads.Learnt)
 
 module _ (t : ℕ) where
-
   interval-requires : lts.Need-interval-requires (claims t) (pbeta-at t) pbeta.Post
   interval-requires c κs = search needs
 
@@ -86,7 +85,7 @@ module _ (t : ℕ) where
   returns-3 : lts.Need-returns-3 (claims t) (pbeta-at t) pbeta.Post
   unfolding pbeta steps
   returns-3 c = rw (← c .before .before .before .before .before .before .before .before .before .before .before .before .before .before .before .before .before .before .before .before .before .before .before .before .before .interval .ensures, c .before .before .before .before .before .before .before .before .before .before .before .before .before .before .before .before .before .before .before .before .before .q1 .given .1, ← c .before .before .before .before .before .before .before .before .before .before .before .before .before .before .before .before .before .transform .ensures, c .before .before .before .before .before .before .before .before .before .before .before .q2 .given .1, ← c .before .before .before .before .before .before .before .check .ensures, c .as-reduced3 .ensures)
-    (rw (c .before .enum-told3 .given .1))
+      (rw (c .before .enum-told3 .given .1))
 
   cite5-requires : lts.Need-cite5-requires (claims t) (pbeta-at t) pbeta.Post
   cite5-requires c κs = search needs
@@ -112,7 +111,7 @@ module _ (t : ℕ) where
   returns-4 : lts.Need-returns-4 (claims t) (pbeta-at t) pbeta.Post
   unfolding pbeta steps
   returns-4 c = rw (← c .before .before .before .before .before .before .before .before .before .before .before .before .before .before .before .before .before .before .before .before .before .before .before .before .before .before .before .before .before .before .before .before .before .before .interval .ensures, c .before .before .before .before .before .before .before .before .before .before .before .before .before .before .before .before .before .before .before .before .before .before .before .before .before .before .before .before .before .before .q1 .given .1, ← c .before .before .before .before .before .before .before .before .before .before .before .before .before .before .before .before .before .before .before .before .before .before .before .before .before .before .transform .ensures, c .before .before .before .before .before .before .before .before .before .before .before .before .before .before .before .before .before .before .before .before .q2 .given .1, ← c .before .before .before .before .before .before .before .before .before .before .before .before .before .before .before .before .check .ensures, c .before .before .before .before .before .before .before .before .before .before .q3 .given .1)
-    (rw (← c .before .before .before .before .before .before .before .before .cite5 .ensures, ← c .before .before .before .before .before .emit-eq .ensures, c .as-reduced4 .ensures, c .before .enum-told4 .given .1))
+      (rw (← c .before .before .before .before .before .before .before .before .cite5 .ensures, ← c .before .before .before .before .before .emit-eq .ensures, c .as-reduced4 .ensures, c .before .enum-told4 .given .1))
 
   same-length-9 : lts.Need-same-length-9 (claims t) (pbeta-at t) pbeta.Post
   same-length-9 c = omega (arith, c .before .before .before .before .before .before .before .before .before .before .before .before .before .before .before .before .before .before .before .before .before .before .before .before .before .before .before .before .before .before .before .before .before .before .interval .kept, c .before .before .before .before .before .before .before .before .before .before .before .before .before .before .before .before .before .before .before .before .before .before .before .before .before .before .transform .kept, c .before .before .before .before .before .before .before .before .before .before .before .before .before .before .before .before .check .kept, c .before .before .before .before .before .emit-eq .kept)
@@ -123,7 +122,7 @@ module _ (t : ℕ) where
   returns-5 : lts.Need-returns-5 (claims t) (pbeta-at t) pbeta.Post
   unfolding pbeta steps
   returns-5 c = rw (← c .before .before .before .before .before .before .before .before .before .before .before .before .before .before .before .before .before .before .before .before .before .before .before .before .before .before .before .before .before .before .before .before .before .before .interval .ensures, c .before .before .before .before .before .before .before .before .before .before .before .before .before .before .before .before .before .before .before .before .before .before .before .before .before .before .before .before .before .before .q1 .given .1, ← c .before .before .before .before .before .before .before .before .before .before .before .before .before .before .before .before .before .before .before .before .before .before .before .before .before .before .transform .ensures, c .before .before .before .before .before .before .before .before .before .before .before .before .before .before .before .before .before .before .before .before .q2 .given .1, ← c .before .before .before .before .before .before .before .before .before .before .before .before .before .before .before .before .check .ensures, c .before .before .before .before .before .before .before .before .before .before .q3 .given .1)
-    (rw (← c .before .before .before .before .before .before .before .before .cite5 .ensures, ← c .before .before .before .before .before .emit-eq .ensures, c .before .q4 .given .1))
+      (rw (← c .before .before .before .before .before .before .before .before .cite5 .ensures, ← c .before .before .before .before .before .emit-eq .ensures, c .before .q4 .given .1))
 
   pub part : {M : Type 1} → lts.Closed (claims t) (pbeta-at t) pbeta.Post M
   part = lts.spec (claims t) (pbeta-at t) pbeta.Post interval-requires enum-known-q1 enum-told as-reduced-requires same-length same-length-2 returns transform-requires enum-known-q2 enum-told-2 as-reduced-requires-2 same-length-3 same-length-4 returns-2 check-requires enum-known-q3 enum-told-3 as-reduced-requires-3 same-length-5 same-length-6 returns-3 cite5-requires emit-eq-requires enum-known-q4 enum-told-4 as-reduced-requires-4 same-length-7 same-length-8 returns-4 same-length-9 same-length-10 returns-5

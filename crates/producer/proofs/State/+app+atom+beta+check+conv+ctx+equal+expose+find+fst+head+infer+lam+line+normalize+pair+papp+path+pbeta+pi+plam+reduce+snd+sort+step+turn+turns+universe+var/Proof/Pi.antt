@@ -21,7 +21,6 @@ abbrev claims : ℕ → lts.Claims
 claims t = (universe-below t, universe.Post, answers-Two-as-inferred-reads.Asked, answers-Two-as-inferred-reads.Learnt, prepare-reads.Asked, prepare-reads.Learnt, answers-Got-as-inferred-reads.Asked, answers-Got-as-inferred-reads.Learnt, max-reads.Asked, max-reads.Learnt, greater-reads.Asked, greater-reads.Learnt, intern-reads.Asked, intern-reads.Learnt, cite3-reads.Asked, cite3-reads.Learnt)
 
 module _ (t : ℕ) where
-
   universe-requires : lts.Need-universe-requires (claims t) (pi-at t) pi.Post
   universe-requires c κs = (omega (arith, c .before .before .before .before .pre .0), tt)
 
@@ -87,7 +86,7 @@ module _ (t : ℕ) where
   returns-3 : lts.Need-returns-3 (claims t) (pi-at t) pi.Post
   unfolding find-binder steps
   returns-3 c = rw (← c .before .before .before .before .before .before .before .before .before .before .before .before .before .before .before .before .before .before .before .before .before .before .before .before .before .universe .ensures, c .before .before .before .before .before .before .before .before .before .before .before .before .before .before .before .before .before .before .before .q1 .given .1, ← c .before .before .before .before .before .before .before .before .before .before .before .before .before .before .before .prepare .ensures, c .before .before .before .before .before .before .before .before .before .before .before .q2 .given .1, ← c .before .before .before .before .before .before .before .universe2 .ensures, c .as-inferred3 .ensures)
-    (rw (c .before .enum-told3 .given .1))
+      (rw (c .before .enum-told3 .given .1))
 
   max-requires : lts.Need-max-requires (claims t) (pi-at t) pi.Post
   max-requires c κs = search needs
@@ -110,7 +109,7 @@ module _ (t : ℕ) where
   returns-4 : lts.Need-returns-4 (claims t) (pi-at t) pi.Post
   unfolding find-binder steps
   returns-4 c = rw (← c .before .before .before .before .before .before .before .before .before .before .before .before .before .before .before .before .before .before .before .before .before .before .before .before .before .before .before .before .before .before .before .before .before .universe .ensures, c .before .before .before .before .before .before .before .before .before .before .before .before .before .before .before .before .before .before .before .before .before .before .before .before .before .before .before .q1 .given .1, ← c .before .before .before .before .before .before .before .before .before .before .before .before .before .before .before .before .before .before .before .before .before .before .before .prepare .ensures, c .before .before .before .before .before .before .before .before .before .before .before .before .before .before .before .before .before .before .before .q2 .given .1, ← c .before .before .before .before .before .before .before .before .before .before .before .before .before .before .before .universe2 .ensures, c .before .before .before .before .before .before .before .before .before .q3 .given .1)
-    (rw (← c .before .before .before .before .before .max .ensures, c .as-inferred4 .ensures, c .before .enum-told4 .given .1))
+      (rw (← c .before .before .before .before .before .max .ensures, c .as-inferred4 .ensures, c .before .enum-told4 .given .1))
 
   greater-requires : lts.Need-greater-requires (claims t) (pi-at t) pi.Post
   greater-requires c κs = search needs
@@ -136,7 +135,7 @@ module _ (t : ℕ) where
   returns-5 : lts.Need-returns-5 (claims t) (pi-at t) pi.Post
   unfolding find-binder steps
   returns-5 c = rw (← c .before .before .before .before .before .before .before .before .before .before .before .before .before .before .before .before .before .before .before .before .before .before .before .before .before .before .before .before .before .before .before .before .before .before .before .before .before .before .before .before .before .before .universe .ensures, c .before .before .before .before .before .before .before .before .before .before .before .before .before .before .before .before .before .before .before .before .before .before .before .before .before .before .before .before .before .before .before .before .before .before .before .before .q1 .given .1, ← c .before .before .before .before .before .before .before .before .before .before .before .before .before .before .before .before .before .before .before .before .before .before .before .before .before .before .before .before .before .before .before .before .prepare .ensures, c .before .before .before .before .before .before .before .before .before .before .before .before .before .before .before .before .before .before .before .before .before .before .before .before .before .before .before .before .q2 .given .1, ← c .before .before .before .before .before .before .before .before .before .before .before .before .before .before .before .before .before .before .before .before .before .before .before .before .universe2 .ensures, c .before .before .before .before .before .before .before .before .before .before .before .before .before .before .before .before .before .before .q3 .given .1)
-    (rw (← c .before .before .before .before .before .before .before .before .before .before .before .before .before .before .max .ensures, c .before .before .before .before .before .before .before .before .before .before .q4 .given .1, ← c .before .before .before .before .before .before .before .before .greater .ensures, ← c .before .before .before .before .before .intern .ensures, c .as-inferred5 .ensures, c .before .enum-told5 .given .1))
+      (rw (← c .before .before .before .before .before .before .before .before .before .before .before .before .before .before .max .ensures, c .before .before .before .before .before .before .before .before .before .before .q4 .given .1, ← c .before .before .before .before .before .before .before .before .greater .ensures, ← c .before .before .before .before .before .intern .ensures, c .as-inferred5 .ensures, c .before .enum-told5 .given .1))
 
   cite3-requires : lts.Need-cite3-requires (claims t) (pi-at t) pi.Post
   cite3-requires c κs = search needs
@@ -150,7 +149,7 @@ module _ (t : ℕ) where
   returns-6 : lts.Need-returns-6 (claims t) (pi-at t) pi.Post
   unfolding find-binder steps
   returns-6 c = rw (← c .before .before .before .before .before .before .before .before .before .before .before .before .before .before .before .before .before .before .before .before .before .before .before .before .before .before .before .before .before .before .before .before .before .before .before .before .before .before .before .before .before .before .before .universe .ensures, c .before .before .before .before .before .before .before .before .before .before .before .before .before .before .before .before .before .before .before .before .before .before .before .before .before .before .before .before .before .before .before .before .before .before .before .before .before .q1 .given .1, ← c .before .before .before .before .before .before .before .before .before .before .before .before .before .before .before .before .before .before .before .before .before .before .before .before .before .before .before .before .before .before .before .before .before .prepare .ensures, c .before .before .before .before .before .before .before .before .before .before .before .before .before .before .before .before .before .before .before .before .before .before .before .before .before .before .before .before .before .q2 .given .1, ← c .before .before .before .before .before .before .before .before .before .before .before .before .before .before .before .before .before .before .before .before .before .before .before .before .before .universe2 .ensures, c .before .before .before .before .before .before .before .before .before .before .before .before .before .before .before .before .before .before .before .q3 .given .1)
-    (rw (← c .before .before .before .before .before .before .before .before .before .before .before .before .before .before .before .max .ensures, c .before .before .before .before .before .before .before .before .before .before .before .q4 .given .1, ← c .before .before .before .before .before .before .before .before .before .greater .ensures, ← c .before .before .before .before .before .before .intern .ensures, c .before .before .q5 .given .1, ← c .cite3 .ensures))
+      (rw (← c .before .before .before .before .before .before .before .before .before .before .before .before .before .before .before .max .ensures, c .before .before .before .before .before .before .before .before .before .before .before .q4 .given .1, ← c .before .before .before .before .before .before .before .before .before .greater .ensures, ← c .before .before .before .before .before .before .intern .ensures, c .before .before .q5 .given .1, ← c .cite3 .ensures))
 
   pub part : {M : Type 1} → lts.Closed (claims t) (pi-at t) pi.Post M
   part = lts.spec (claims t) (pi-at t) pi.Post universe-requires enum-known-q1 enum-told as-inferred-requires same-length same-length-2 returns prepare-requires enum-known-q2 enum-told-2 as-inferred-requires-2 same-length-3 same-length-4 returns-2 universe-requires-2 enum-known-q3 enum-told-3 as-inferred-requires-3 same-length-5 same-length-6 returns-3 max-requires enum-known-q4 enum-told-4 as-inferred-requires-4 same-length-7 same-length-8 returns-4 greater-requires intern-requires enum-known-q5 enum-told-5 as-inferred-requires-5 same-length-9 same-length-10 returns-5 cite3-requires same-length-11 same-length-12 returns-6

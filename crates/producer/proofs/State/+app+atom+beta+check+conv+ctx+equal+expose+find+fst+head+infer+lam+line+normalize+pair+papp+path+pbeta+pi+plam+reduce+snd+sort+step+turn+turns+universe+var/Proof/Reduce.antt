@@ -30,7 +30,6 @@ abbrev claims : ℕ → lts.Claims
 claims t = (deeper-reads.Asked, deeper-reads.Learnt, read-reads.Asked, read-reads.Learnt, shape-of-reads.Asked, shape-of-reads.Learnt, beta-below t, beta.Post, line-below t, line.Post, head-below t, head.Post, answers-Two-as-reduced-reads.Asked, answers-Two-as-reduced-reads.Learnt, check-below t, check.Post, answers-Got-as-reduced-reads.Asked, answers-Got-as-reduced-reads.Learnt, cite2-reads.Asked, cite2-reads.Learnt, emit-eq-reads.Asked, emit-eq-reads.Learnt, prepare-reads.Asked, prepare-reads.Learnt, transform-reads.Asked, transform-reads.Learnt, step-below t, step.Post)
 
 module _ (t : ℕ) where
-
   returns : lts.Need-returns (claims t) (reduce-at t) reduce.Post
   unfolding reduce-body steps fst-beta snd-beta as-sigma
   returns c = rw (law.reduce-none _ _ _ _ _ (c .if1 .taken))
@@ -62,7 +61,7 @@ module _ (t : ℕ) where
   returns-2 : lts.Need-returns-2 (claims t) (reduce-at t) reduce.Post
   unfolding reduce-body steps fst-beta snd-beta as-sigma
   returns-2 c = rw (law.reduce-in _ _ _ _ _ (c .before .before .before .before .before .before .before .before .before .before .before .before .before .before .before .before .if1 .left), ← c .before .before .before .before .before .before .before .before .before .before .before .before .before .before .before .deeper .ensures, ← c .before .before .before .before .before .before .before .before .before .before .before .before .before .read .ensures, c .before .before .before .before .before .before .before .before .before .before .before .before .match .keys1, ← c .before .before .before .before .before .before .before .before .before .before .shape-of .ensures, c .before .before .before .before .before .before .before .before .shape .given .1)
-    (rw (← c .before .before .before .before .beta .ensures))
+      (rw (← c .before .before .before .before .beta .ensures))
 
   same-length-3 : lts.Need-same-length-3 (claims t) (reduce-at t) reduce.Post
   same-length-3 c = omega (arith)
@@ -118,7 +117,7 @@ module _ (t : ℕ) where
   returns-6 : lts.Need-returns-6 (claims t) (reduce-at t) reduce.Post
   unfolding reduce-body steps fst-beta snd-beta as-sigma
   returns-6 c = rw (law.reduce-in _ _ _ _ _ (c .before .before .before .before .before .before .before .before .before .before .before .before .before .before .before .before .before .before .before .if1 .left), ← c .before .before .before .before .before .before .before .before .before .before .before .before .before .before .before .before .before .before .deeper .ensures, ← c .before .before .before .before .before .before .before .before .before .before .before .before .before .before .before .before .read .ensures, c .before .before .before .before .before .before .before .before .before .before .before .before .before .before .before .match .keys3, ← c .before .before .before .before .before .before .before .before .before .before .before .before .before .shape-of2 .ensures, c .before .before .before .before .before .before .before .before .before .before .before .shape2 .given .1)
-    (rw (← c .before .before .before .before .before .before .before .head .ensures, c .as-reduced .ensures, c .before .enum-told .given .1))
+      (rw (← c .before .before .before .before .before .before .before .head .ensures, c .as-reduced .ensures, c .before .enum-told .given .1))
 
   shape-of-requires-3 : lts.Need-shape-of-requires-3 (claims t) (reduce-at t) reduce.Post
   shape-of-requires-3 c κs = search needs
@@ -135,7 +134,7 @@ module _ (t : ℕ) where
   returns-7 : lts.Need-returns-7 (claims t) (reduce-at t) reduce.Post
   unfolding reduce-body steps fst-beta snd-beta as-sigma
   returns-7 c = rw (law.reduce-in _ _ _ _ _ (c .before .before .before .before .before .before .before .before .before .before .before .before .before .before .before .before .before .before .before .before .before .before .if1 .left), ← c .before .before .before .before .before .before .before .before .before .before .before .before .before .before .before .before .before .before .before .before .before .deeper .ensures, ← c .before .before .before .before .before .before .before .before .before .before .before .before .before .before .before .before .before .before .before .read .ensures, c .before .before .before .before .before .before .before .before .before .before .before .before .before .before .before .before .before .before .match .keys3, ← c .before .before .before .before .before .before .before .before .before .before .before .before .before .before .before .before .shape-of2 .ensures, c .before .before .before .before .before .before .before .before .before .before .before .before .before .before .shape2 .given .1)
-    (rw (← c .before .before .before .before .before .before .before .before .before .before .head .ensures, c .before .before .before .before .q1 .given .1, ← c .before .shape-of3 .ensures, law.not-sigma _ (c .match5 .keys2)))
+      (rw (← c .before .before .before .before .before .before .before .before .before .before .head .ensures, c .before .before .before .before .q1 .given .1, ← c .before .shape-of3 .ensures, law.not-sigma _ (c .match5 .keys2)))
 
   check-requires : lts.Need-check-requires (claims t) (reduce-at t) reduce.Post
   check-requires c κs = (omega (arith, c .before .before .before .before .before .before .before .before .before .before .before .before .before .before .before .before .before .before .before .before .before .before .before .before .before .before .before .before .before .pre .0, c .before .before .before .before .before .before .before .before .before .before .before .before .before .before .before .before .before .before .before .before .before .before .before .before .before .before .if1 .left), tt)
@@ -158,8 +157,8 @@ module _ (t : ℕ) where
   returns-8 : lts.Need-returns-8 (claims t) (reduce-at t) reduce.Post
   unfolding reduce-body steps fst-beta snd-beta as-sigma
   returns-8 c = rw (law.reduce-in _ _ _ _ _ (c .before .before .before .before .before .before .before .before .before .before .before .before .before .before .before .before .before .before .before .before .before .before .before .before .before .before .before .before .before .before .before .before .before .before .if1 .left), ← c .before .before .before .before .before .before .before .before .before .before .before .before .before .before .before .before .before .before .before .before .before .before .before .before .before .before .before .before .before .before .before .before .before .deeper .ensures, ← c .before .before .before .before .before .before .before .before .before .before .before .before .before .before .before .before .before .before .before .before .before .before .before .before .before .before .before .before .before .before .before .read .ensures, c .before .before .before .before .before .before .before .before .before .before .before .before .before .before .before .before .before .before .before .before .before .before .before .before .before .before .before .before .before .before .match .keys3, ← c .before .before .before .before .before .before .before .before .before .before .before .before .before .before .before .before .before .before .before .before .before .before .before .before .before .before .before .before .shape-of2 .ensures, c .before .before .before .before .before .before .before .before .before .before .before .before .before .before .before .before .before .before .before .before .before .before .before .before .before .before .shape2 .given .1)
-    (rw (← c .before .before .before .before .before .before .before .before .before .before .before .before .before .before .before .before .before .before .before .before .before .before .head .ensures, c .before .before .before .before .before .before .before .before .before .before .before .before .before .before .before .before .q1 .given .1, ← c .before .before .before .before .before .before .before .before .before .before .before .before .before .shape-of3 .ensures, c .before .before .before .before .before .before .before .before .before .before .before .parts .given .1, ← c .before .before .before .before .before .before .before .check .ensures, c .as-reduced2 .ensures)
-    (rw (c .before .enum-told2 .given .1)))
+      (rw (← c .before .before .before .before .before .before .before .before .before .before .before .before .before .before .before .before .before .before .before .before .before .before .head .ensures, c .before .before .before .before .before .before .before .before .before .before .before .before .before .before .before .before .q1 .given .1, ← c .before .before .before .before .before .before .before .before .before .before .before .before .before .shape-of3 .ensures, c .before .before .before .before .before .before .before .before .before .before .before .parts .given .1, ← c .before .before .before .before .before .before .before .check .ensures, c .as-reduced2 .ensures)
+      (rw (c .before .enum-told2 .given .1)))
 
   cite2-requires : lts.Need-cite2-requires (claims t) (reduce-at t) reduce.Post
   cite2-requires c κs = search needs
@@ -185,8 +184,8 @@ module _ (t : ℕ) where
   returns-9 : lts.Need-returns-9 (claims t) (reduce-at t) reduce.Post
   unfolding reduce-body steps fst-beta snd-beta as-sigma
   returns-9 c = rw (law.reduce-in _ _ _ _ _ (c .before .before .before .before .before .before .before .before .before .before .before .before .before .before .before .before .before .before .before .before .before .before .before .before .before .before .before .before .before .before .before .before .before .before .before .before .before .before .before .before .before .before .before .if1 .left), ← c .before .before .before .before .before .before .before .before .before .before .before .before .before .before .before .before .before .before .before .before .before .before .before .before .before .before .before .before .before .before .before .before .before .before .before .before .before .before .before .before .before .before .deeper .ensures, ← c .before .before .before .before .before .before .before .before .before .before .before .before .before .before .before .before .before .before .before .before .before .before .before .before .before .before .before .before .before .before .before .before .before .before .before .before .before .before .before .before .read .ensures, c .before .before .before .before .before .before .before .before .before .before .before .before .before .before .before .before .before .before .before .before .before .before .before .before .before .before .before .before .before .before .before .before .before .before .before .before .before .before .before .match .keys3, ← c .before .before .before .before .before .before .before .before .before .before .before .before .before .before .before .before .before .before .before .before .before .before .before .before .before .before .before .before .before .before .before .before .before .before .before .before .before .shape-of2 .ensures, c .before .before .before .before .before .before .before .before .before .before .before .before .before .before .before .before .before .before .before .before .before .before .before .before .before .before .before .before .before .before .before .before .before .before .before .shape2 .given .1)
-    (rw (← c .before .before .before .before .before .before .before .before .before .before .before .before .before .before .before .before .before .before .before .before .before .before .before .before .before .before .before .before .before .before .before .head .ensures, c .before .before .before .before .before .before .before .before .before .before .before .before .before .before .before .before .before .before .before .before .before .before .before .before .before .q1 .given .1, ← c .before .before .before .before .before .before .before .before .before .before .before .before .before .before .before .before .before .before .before .before .before .before .shape-of3 .ensures, c .before .before .before .before .before .before .before .before .before .before .before .before .before .before .before .before .before .before .before .before .parts .given .1, ← c .before .before .before .before .before .before .before .before .before .before .before .before .before .before .before .before .check .ensures, c .before .before .before .before .before .before .before .before .before .before .q2 .given .1)
-    (rw (← c .before .before .before .before .before .before .before .before .cite2 .ensures, ← c .before .before .before .before .before .emit-eq .ensures, c .as-reduced3 .ensures, c .before .enum-told3 .given .1)))
+      (rw (← c .before .before .before .before .before .before .before .before .before .before .before .before .before .before .before .before .before .before .before .before .before .before .before .before .before .before .before .before .before .before .before .head .ensures, c .before .before .before .before .before .before .before .before .before .before .before .before .before .before .before .before .before .before .before .before .before .before .before .before .before .q1 .given .1, ← c .before .before .before .before .before .before .before .before .before .before .before .before .before .before .before .before .before .before .before .before .before .before .shape-of3 .ensures, c .before .before .before .before .before .before .before .before .before .before .before .before .before .before .before .before .before .before .before .before .parts .given .1, ← c .before .before .before .before .before .before .before .before .before .before .before .before .before .before .before .before .check .ensures, c .before .before .before .before .before .before .before .before .before .before .q2 .given .1)
+      (rw (← c .before .before .before .before .before .before .before .before .cite2 .ensures, ← c .before .before .before .before .before .emit-eq .ensures, c .as-reduced3 .ensures, c .before .enum-told3 .given .1)))
 
   same-length-15 : lts.Need-same-length-15 (claims t) (reduce-at t) reduce.Post
   same-length-15 c = omega (arith, c .before .before .before .before .before .before .before .before .before .before .before .before .before .before .before .before .before .before .before .before .before .before .before .before .before .before .before .before .before .before .before .head .kept, c .before .before .before .before .before .before .before .before .before .before .before .before .before .before .before .before .check .kept, c .before .before .before .before .before .emit-eq .kept)
@@ -197,8 +196,8 @@ module _ (t : ℕ) where
   returns-10 : lts.Need-returns-10 (claims t) (reduce-at t) reduce.Post
   unfolding reduce-body steps fst-beta snd-beta as-sigma
   returns-10 c = rw (law.reduce-in _ _ _ _ _ (c .before .before .before .before .before .before .before .before .before .before .before .before .before .before .before .before .before .before .before .before .before .before .before .before .before .before .before .before .before .before .before .before .before .before .before .before .before .before .before .before .before .before .before .if1 .left), ← c .before .before .before .before .before .before .before .before .before .before .before .before .before .before .before .before .before .before .before .before .before .before .before .before .before .before .before .before .before .before .before .before .before .before .before .before .before .before .before .before .before .before .deeper .ensures, ← c .before .before .before .before .before .before .before .before .before .before .before .before .before .before .before .before .before .before .before .before .before .before .before .before .before .before .before .before .before .before .before .before .before .before .before .before .before .before .before .before .read .ensures, c .before .before .before .before .before .before .before .before .before .before .before .before .before .before .before .before .before .before .before .before .before .before .before .before .before .before .before .before .before .before .before .before .before .before .before .before .before .before .before .match .keys3, ← c .before .before .before .before .before .before .before .before .before .before .before .before .before .before .before .before .before .before .before .before .before .before .before .before .before .before .before .before .before .before .before .before .before .before .before .before .before .shape-of2 .ensures, c .before .before .before .before .before .before .before .before .before .before .before .before .before .before .before .before .before .before .before .before .before .before .before .before .before .before .before .before .before .before .before .before .before .before .before .shape2 .given .1)
-    (rw (← c .before .before .before .before .before .before .before .before .before .before .before .before .before .before .before .before .before .before .before .before .before .before .before .before .before .before .before .before .before .before .before .head .ensures, c .before .before .before .before .before .before .before .before .before .before .before .before .before .before .before .before .before .before .before .before .before .before .before .before .before .q1 .given .1, ← c .before .before .before .before .before .before .before .before .before .before .before .before .before .before .before .before .before .before .before .before .before .before .shape-of3 .ensures, c .before .before .before .before .before .before .before .before .before .before .before .before .before .before .before .before .before .before .before .before .parts .given .1, ← c .before .before .before .before .before .before .before .before .before .before .before .before .before .before .before .before .check .ensures, c .before .before .before .before .before .before .before .before .before .before .q2 .given .1)
-    (rw (← c .before .before .before .before .before .before .before .before .cite2 .ensures, ← c .before .before .before .before .before .emit-eq .ensures, c .before .q3 .given .1)))
+      (rw (← c .before .before .before .before .before .before .before .before .before .before .before .before .before .before .before .before .before .before .before .before .before .before .before .before .before .before .before .before .before .before .before .head .ensures, c .before .before .before .before .before .before .before .before .before .before .before .before .before .before .before .before .before .before .before .before .before .before .before .before .before .q1 .given .1, ← c .before .before .before .before .before .before .before .before .before .before .before .before .before .before .before .before .before .before .before .before .before .before .shape-of3 .ensures, c .before .before .before .before .before .before .before .before .before .before .before .before .before .before .before .before .before .before .before .before .parts .given .1, ← c .before .before .before .before .before .before .before .before .before .before .before .before .before .before .before .before .check .ensures, c .before .before .before .before .before .before .before .before .before .before .q2 .given .1)
+      (rw (← c .before .before .before .before .before .before .before .before .cite2 .ensures, ← c .before .before .before .before .before .emit-eq .ensures, c .before .q3 .given .1)))
 
   shape-of-requires-4 : lts.Need-shape-of-requires-4 (claims t) (reduce-at t) reduce.Post
   shape-of-requires-4 c κs = search needs
@@ -234,7 +233,7 @@ module _ (t : ℕ) where
   returns-12 : lts.Need-returns-12 (claims t) (reduce-at t) reduce.Post
   unfolding reduce-body steps fst-beta snd-beta as-sigma
   returns-12 c = rw (law.reduce-in _ _ _ _ _ (c .before .before .before .before .before .before .before .before .before .before .before .before .before .before .before .before .before .before .before .if1 .left), ← c .before .before .before .before .before .before .before .before .before .before .before .before .before .before .before .before .before .before .deeper .ensures, ← c .before .before .before .before .before .before .before .before .before .before .before .before .before .before .before .before .read .ensures, c .before .before .before .before .before .before .before .before .before .before .before .before .before .before .before .match .keys4, ← c .before .before .before .before .before .before .before .before .before .before .before .before .before .shape-of4 .ensures, c .before .before .before .before .before .before .before .before .before .before .before .shape3 .given .1)
-    (rw (← c .before .before .before .before .before .before .before .head2 .ensures, c .as-reduced4 .ensures, c .before .enum-told4 .given .1))
+      (rw (← c .before .before .before .before .before .before .before .head2 .ensures, c .as-reduced4 .ensures, c .before .enum-told4 .given .1))
 
   shape-of-requires-5 : lts.Need-shape-of-requires-5 (claims t) (reduce-at t) reduce.Post
   shape-of-requires-5 c κs = search needs
@@ -251,7 +250,7 @@ module _ (t : ℕ) where
   returns-13 : lts.Need-returns-13 (claims t) (reduce-at t) reduce.Post
   unfolding reduce-body steps fst-beta snd-beta as-sigma
   returns-13 c = rw (law.reduce-in _ _ _ _ _ (c .before .before .before .before .before .before .before .before .before .before .before .before .before .before .before .before .before .before .before .before .before .before .if1 .left), ← c .before .before .before .before .before .before .before .before .before .before .before .before .before .before .before .before .before .before .before .before .before .deeper .ensures, ← c .before .before .before .before .before .before .before .before .before .before .before .before .before .before .before .before .before .before .before .read .ensures, c .before .before .before .before .before .before .before .before .before .before .before .before .before .before .before .before .before .before .match .keys4, ← c .before .before .before .before .before .before .before .before .before .before .before .before .before .before .before .before .shape-of4 .ensures, c .before .before .before .before .before .before .before .before .before .before .before .before .before .before .shape3 .given .1)
-    (rw (← c .before .before .before .before .before .before .before .before .before .before .head2 .ensures, c .before .before .before .before .q12 .given .1, ← c .before .shape-of5 .ensures, law.not-sigma _ (c .match10 .keys2)))
+      (rw (← c .before .before .before .before .before .before .before .before .before .before .head2 .ensures, c .before .before .before .before .q12 .given .1, ← c .before .shape-of5 .ensures, law.not-sigma _ (c .match10 .keys2)))
 
   prepare-requires : lts.Need-prepare-requires (claims t) (reduce-at t) reduce.Post
   prepare-requires c κs = search needs
@@ -274,8 +273,8 @@ module _ (t : ℕ) where
   returns-14 : lts.Need-returns-14 (claims t) (reduce-at t) reduce.Post
   unfolding reduce-body steps fst-beta snd-beta as-sigma
   returns-14 c = rw (law.reduce-in _ _ _ _ _ (c .before .before .before .before .before .before .before .before .before .before .before .before .before .before .before .before .before .before .before .before .before .before .before .before .before .before .before .before .before .before .before .before .if1 .left), ← c .before .before .before .before .before .before .before .before .before .before .before .before .before .before .before .before .before .before .before .before .before .before .before .before .before .before .before .before .before .before .before .deeper .ensures, ← c .before .before .before .before .before .before .before .before .before .before .before .before .before .before .before .before .before .before .before .before .before .before .before .before .before .before .before .before .before .read .ensures, c .before .before .before .before .before .before .before .before .before .before .before .before .before .before .before .before .before .before .before .before .before .before .before .before .before .before .before .before .match .keys4, ← c .before .before .before .before .before .before .before .before .before .before .before .before .before .before .before .before .before .before .before .before .before .before .before .before .before .before .shape-of4 .ensures, c .before .before .before .before .before .before .before .before .before .before .before .before .before .before .before .before .before .before .before .before .before .before .before .before .shape3 .given .1)
-    (rw (← c .before .before .before .before .before .before .before .before .before .before .before .before .before .before .before .before .before .before .before .before .head2 .ensures, c .before .before .before .before .before .before .before .before .before .before .before .before .before .before .q12 .given .1, ← c .before .before .before .before .before .before .before .before .before .before .before .shape-of5 .ensures, c .before .before .before .before .before .before .before .before .before .parts2 .given .1, ← c .before .before .before .before .before .prepare .ensures, c .as-reduced5 .ensures)
-    (rw (c .before .enum-told5 .given .1)))
+      (rw (← c .before .before .before .before .before .before .before .before .before .before .before .before .before .before .before .before .before .before .before .before .head2 .ensures, c .before .before .before .before .before .before .before .before .before .before .before .before .before .before .q12 .given .1, ← c .before .before .before .before .before .before .before .before .before .before .before .shape-of5 .ensures, c .before .before .before .before .before .before .before .before .before .parts2 .given .1, ← c .before .before .before .before .before .prepare .ensures, c .as-reduced5 .ensures)
+      (rw (c .before .enum-told5 .given .1)))
 
   transform-requires : lts.Need-transform-requires (claims t) (reduce-at t) reduce.Post
   transform-requires c κs = search needs
@@ -298,8 +297,8 @@ module _ (t : ℕ) where
   returns-15 : lts.Need-returns-15 (claims t) (reduce-at t) reduce.Post
   unfolding reduce-body steps fst-beta snd-beta as-sigma
   returns-15 c = rw (law.reduce-in _ _ _ _ _ (c .before .before .before .before .before .before .before .before .before .before .before .before .before .before .before .before .before .before .before .before .before .before .before .before .before .before .before .before .before .before .before .before .before .before .before .before .before .before .before .before .before .before .if1 .left), ← c .before .before .before .before .before .before .before .before .before .before .before .before .before .before .before .before .before .before .before .before .before .before .before .before .before .before .before .before .before .before .before .before .before .before .before .before .before .before .before .before .before .deeper .ensures, ← c .before .before .before .before .before .before .before .before .before .before .before .before .before .before .before .before .before .before .before .before .before .before .before .before .before .before .before .before .before .before .before .before .before .before .before .before .before .before .before .read .ensures, c .before .before .before .before .before .before .before .before .before .before .before .before .before .before .before .before .before .before .before .before .before .before .before .before .before .before .before .before .before .before .before .before .before .before .before .before .before .before .match .keys4, ← c .before .before .before .before .before .before .before .before .before .before .before .before .before .before .before .before .before .before .before .before .before .before .before .before .before .before .before .before .before .before .before .before .before .before .before .before .shape-of4 .ensures, c .before .before .before .before .before .before .before .before .before .before .before .before .before .before .before .before .before .before .before .before .before .before .before .before .before .before .before .before .before .before .before .before .before .before .shape3 .given .1)
-    (rw (← c .before .before .before .before .before .before .before .before .before .before .before .before .before .before .before .before .before .before .before .before .before .before .before .before .before .before .before .before .before .before .head2 .ensures, c .before .before .before .before .before .before .before .before .before .before .before .before .before .before .before .before .before .before .before .before .before .before .before .before .q12 .given .1, ← c .before .before .before .before .before .before .before .before .before .before .before .before .before .before .before .before .before .before .before .before .before .shape-of5 .ensures, c .before .before .before .before .before .before .before .before .before .before .before .before .before .before .before .before .before .before .before .parts2 .given .1, ← c .before .before .before .before .before .before .before .before .before .before .before .before .before .before .before .prepare .ensures, c .before .before .before .before .before .before .before .before .before .before .before .q22 .given .1)
-    (rw (← c .before .before .before .before .before .before .before .transform .ensures, c .as-reduced6 .ensures, c .before .enum-told6 .given .1)))
+      (rw (← c .before .before .before .before .before .before .before .before .before .before .before .before .before .before .before .before .before .before .before .before .before .before .before .before .before .before .before .before .before .before .head2 .ensures, c .before .before .before .before .before .before .before .before .before .before .before .before .before .before .before .before .before .before .before .before .before .before .before .before .q12 .given .1, ← c .before .before .before .before .before .before .before .before .before .before .before .before .before .before .before .before .before .before .before .before .before .shape-of5 .ensures, c .before .before .before .before .before .before .before .before .before .before .before .before .before .before .before .before .before .before .before .parts2 .given .1, ← c .before .before .before .before .before .before .before .before .before .before .before .before .before .before .before .prepare .ensures, c .before .before .before .before .before .before .before .before .before .before .before .q22 .given .1)
+      (rw (← c .before .before .before .before .before .before .before .transform .ensures, c .as-reduced6 .ensures, c .before .enum-told6 .given .1)))
 
   step-requires : lts.Need-step-requires (claims t) (reduce-at t) reduce.Post
   step-requires c κs = (omega (arith, c .before .before .before .before .before .before .before .before .before .before .before .before .before .before .before .before .before .before .before .before .before .before .before .before .before .before .before .before .before .before .before .before .before .before .before .before .before .before .before .before .before .before .before .before .before .before .before .pre .0, c .before .before .before .before .before .before .before .before .before .before .before .before .before .before .before .before .before .before .before .before .before .before .before .before .before .before .before .before .before .before .before .before .before .before .before .before .before .before .before .before .before .before .before .before .if1 .left), tt)
@@ -313,8 +312,8 @@ module _ (t : ℕ) where
   returns-16 : lts.Need-returns-16 (claims t) (reduce-at t) reduce.Post
   unfolding reduce-body steps fst-beta snd-beta as-sigma
   returns-16 c = rw (law.reduce-in _ _ _ _ _ (c .before .before .before .before .before .before .before .before .before .before .before .before .before .before .before .before .before .before .before .before .before .before .before .before .before .before .before .before .before .before .before .before .before .before .before .before .before .before .before .before .before .before .before .before .before .before .before .before .before .if1 .left), ← c .before .before .before .before .before .before .before .before .before .before .before .before .before .before .before .before .before .before .before .before .before .before .before .before .before .before .before .before .before .before .before .before .before .before .before .before .before .before .before .before .before .before .before .before .before .before .before .before .deeper .ensures, ← c .before .before .before .before .before .before .before .before .before .before .before .before .before .before .before .before .before .before .before .before .before .before .before .before .before .before .before .before .before .before .before .before .before .before .before .before .before .before .before .before .before .before .before .before .before .before .read .ensures, c .before .before .before .before .before .before .before .before .before .before .before .before .before .before .before .before .before .before .before .before .before .before .before .before .before .before .before .before .before .before .before .before .before .before .before .before .before .before .before .before .before .before .before .before .before .match .keys4, ← c .before .before .before .before .before .before .before .before .before .before .before .before .before .before .before .before .before .before .before .before .before .before .before .before .before .before .before .before .before .before .before .before .before .before .before .before .before .before .before .before .before .before .before .shape-of4 .ensures, c .before .before .before .before .before .before .before .before .before .before .before .before .before .before .before .before .before .before .before .before .before .before .before .before .before .before .before .before .before .before .before .before .before .before .before .before .before .before .before .before .before .shape3 .given .1)
-    (rw (← c .before .before .before .before .before .before .before .before .before .before .before .before .before .before .before .before .before .before .before .before .before .before .before .before .before .before .before .before .before .before .before .before .before .before .before .before .before .head2 .ensures, c .before .before .before .before .before .before .before .before .before .before .before .before .before .before .before .before .before .before .before .before .before .before .before .before .before .before .before .before .before .before .before .q12 .given .1, ← c .before .before .before .before .before .before .before .before .before .before .before .before .before .before .before .before .before .before .before .before .before .before .before .before .before .before .before .before .shape-of5 .ensures, c .before .before .before .before .before .before .before .before .before .before .before .before .before .before .before .before .before .before .before .before .before .before .before .before .before .before .parts2 .given .1, ← c .before .before .before .before .before .before .before .before .before .before .before .before .before .before .before .before .before .before .before .before .before .before .prepare .ensures, c .before .before .before .before .before .before .before .before .before .before .before .before .before .before .before .before .before .before .q22 .given .1)
-    (rw (← c .before .before .before .before .before .before .before .before .before .before .before .before .before .before .transform .ensures, c .before .before .before .before .before .before .before .before .q32 .given .1, ← c .before .before .before .before .step .ensures)))
+      (rw (← c .before .before .before .before .before .before .before .before .before .before .before .before .before .before .before .before .before .before .before .before .before .before .before .before .before .before .before .before .before .before .before .before .before .before .before .before .before .head2 .ensures, c .before .before .before .before .before .before .before .before .before .before .before .before .before .before .before .before .before .before .before .before .before .before .before .before .before .before .before .before .before .before .before .q12 .given .1, ← c .before .before .before .before .before .before .before .before .before .before .before .before .before .before .before .before .before .before .before .before .before .before .before .before .before .before .before .before .shape-of5 .ensures, c .before .before .before .before .before .before .before .before .before .before .before .before .before .before .before .before .before .before .before .before .before .before .before .before .before .before .parts2 .given .1, ← c .before .before .before .before .before .before .before .before .before .before .before .before .before .before .before .before .before .before .before .before .before .before .prepare .ensures, c .before .before .before .before .before .before .before .before .before .before .before .before .before .before .before .before .before .before .q22 .given .1)
+      (rw (← c .before .before .before .before .before .before .before .before .before .before .before .before .before .before .transform .ensures, c .before .before .before .before .before .before .before .before .q32 .given .1, ← c .before .before .before .before .step .ensures)))
 
   same-length-28 : lts.Need-same-length-28 (claims t) (reduce-at t) reduce.Post
   same-length-28 c = omega (arith)
@@ -322,7 +321,7 @@ module _ (t : ℕ) where
   returns-17 : lts.Need-returns-17 (claims t) (reduce-at t) reduce.Post
   unfolding reduce-body steps fst-beta snd-beta as-sigma
   returns-17 c = rw (law.reduce-in _ _ _ _ _ (c .before .before .before .before .if1 .left), ← c .before .before .before .deeper .ensures, ← c .before .read .ensures, ne-eqb _ _ (c .match .rest .0 .0 .0 .1), ne-eqb _ _ (c .match .rest .0 .0 .1), ne-eqb _ _ (c .match .rest .0 .1))
-    (rw (ne-eqb _ _ (c .match .rest .1)))
+      (rw (ne-eqb _ _ (c .match .rest .1)))
 
   pub part : {M : Type 1} → lts.Closed (claims t) (reduce-at t) reduce.Post M
   part = lts.spec (claims t) (reduce-at t) reduce.Post returns sub-down deeper-requires read-requires shape-of-requires enum-known-shape beta-requires same-length same-length-2 returns-2 same-length-3 returns-3 line-requires same-length-4 same-length-5 returns-4 shape-of-requires-2 enum-known-shape-2 same-length-6 returns-5 head-requires enum-known-q1 enum-told as-reduced-requires same-length-7 same-length-8 returns-6 shape-of-requires-3 enum-known-parts same-length-9 same-length-10 returns-7 check-requires enum-known-q2 enum-told-2 as-reduced-requires-2 same-length-11 same-length-12 returns-8 cite2-requires emit-eq-requires enum-known-q3 enum-told-3 as-reduced-requires-3 same-length-13 same-length-14 returns-9 same-length-15 same-length-16 returns-10 shape-of-requires-4 enum-known-shape-3 same-length-17 returns-11 head-requires-2 enum-known-q1-2 enum-told-4 as-reduced-requires-4 same-length-18 same-length-19 returns-12 shape-of-requires-5 enum-known-parts-2 same-length-20 same-length-21 returns-13 prepare-requires enum-known-q2-2 enum-told-5 as-reduced-requires-5 same-length-22 same-length-23 returns-14 transform-requires enum-known-q3-2 enum-told-6 as-reduced-requires-6 same-length-24 same-length-25 returns-15 step-requires same-length-26 same-length-27 returns-16 same-length-28 returns-17

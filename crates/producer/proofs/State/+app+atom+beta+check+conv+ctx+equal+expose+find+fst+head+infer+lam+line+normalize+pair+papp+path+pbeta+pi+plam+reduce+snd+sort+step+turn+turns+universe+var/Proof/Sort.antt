@@ -16,7 +16,6 @@ abbrev claims : ℕ → lts.Claims
 claims t = (expose-below t, expose.Post, shape-of-reads.Asked, shape-of-reads.Learnt)
 
 module _ (t : ℕ) where
-
   expose-requires : lts.Need-expose-requires (claims t) (sort-at t) sort.Post
   expose-requires c κs = (omega (arith, c .before .before .before .before .pre .0), tt)
 

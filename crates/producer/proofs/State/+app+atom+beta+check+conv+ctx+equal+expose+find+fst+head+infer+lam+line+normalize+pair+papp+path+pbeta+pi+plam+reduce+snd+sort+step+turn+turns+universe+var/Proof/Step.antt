@@ -17,7 +17,6 @@ abbrev claims : ℕ → lts.Claims
 claims t = (check-below t, check.Post, answers-Got-as-reduced-reads.Asked, answers-Got-as-reduced-reads.Learnt, cite3-reads.Asked, cite3-reads.Learnt, emit-eq-reads.Asked, emit-eq-reads.Learnt)
 
 module _ (t : ℕ) where
-
   check-requires : lts.Need-check-requires (claims t) (step-at t) step.Post
   check-requires c κs = (omega (arith, c .before .before .before .before .pre .0), tt)
 

@@ -19,7 +19,6 @@ abbrev claims : ℕ → lts.Claims
 claims t = (reduce-below t, reduce.Post, same-quote-reads.Asked, same-quote-reads.Learnt, check-below t, check.Post, as-round-reads.Asked, as-round-reads.Learnt, cite2-reads.Asked, cite2-reads.Learnt, emit-eq-reads.Asked, emit-eq-reads.Learnt)
 
 module _ (t : ℕ) where
-
   reduce-requires : lts.Need-reduce-requires (claims t) (turn-at t) turn.Post
   reduce-requires c κs = (omega (arith, c .before .before .before .before .pre .0), tt)
 
@@ -50,7 +49,7 @@ module _ (t : ℕ) where
   returns : lts.Need-returns (claims t) (turn-at t) turn.Post
   unfolding round steps
   returns c = rw (← c .before .before .before .before .before .before .before .before .before .before .before .before .before .before .before .before .before .before .before .before .reduce .ensures, c .before .before .before .before .before .before .before .before .before .before .before .before .before .before .s1 .given .1, ← c .before .before .before .before .before .before .before .before .before .before .before .same-quote .ensures, c .before .before .before .before .before .before .before .before .before .before .if1 .taken, ← c .before .before .before .before .before .before .before .check .ensures, c .as-round .ensures)
-    (rw (c .before .enum-told .given .1))
+      (rw (c .before .enum-told .given .1))
 
   cite2-requires : lts.Need-cite2-requires (claims t) (turn-at t) turn.Post
   cite2-requires c κs = search needs
@@ -76,7 +75,7 @@ module _ (t : ℕ) where
   returns-2 : lts.Need-returns-2 (claims t) (turn-at t) turn.Post
   unfolding round steps
   returns-2 c = rw (← c .before .before .before .before .before .before .before .before .before .before .before .before .before .before .before .before .before .before .before .before .before .before .before .before .before .before .before .before .before .reduce .ensures, c .before .before .before .before .before .before .before .before .before .before .before .before .before .before .before .before .before .before .before .before .before .before .before .s1 .given .1, ← c .before .before .before .before .before .before .before .before .before .before .before .before .before .before .before .before .before .before .before .before .same-quote .ensures, c .before .before .before .before .before .before .before .before .before .before .before .before .before .before .before .before .before .before .before .if1 .taken, ← c .before .before .before .before .before .before .before .before .before .before .before .before .before .before .before .before .check .ensures, c .before .before .before .before .before .before .before .before .before .before .q2 .given .1)
-    (rw (← c .before .before .before .before .before .before .before .before .cite2 .ensures, ← c .before .before .before .before .before .emit-eq .ensures, c .as-round2 .ensures, c .before .enum-told2 .given .1))
+      (rw (← c .before .before .before .before .before .before .before .before .cite2 .ensures, ← c .before .before .before .before .before .emit-eq .ensures, c .as-round2 .ensures, c .before .enum-told2 .given .1))
 
   same-length-5 : lts.Need-same-length-5 (claims t) (turn-at t) turn.Post
   same-length-5 c = omega (arith, c .before .before .before .before .before .before .before .before .before .before .before .before .before .before .before .before .before .before .before .before .before .before .before .before .before .before .before .before .before .reduce .kept, c .before .before .before .before .before .before .before .before .before .before .before .before .before .before .before .before .check .kept, c .before .before .before .before .before .emit-eq .kept)
@@ -87,7 +86,7 @@ module _ (t : ℕ) where
   returns-3 : lts.Need-returns-3 (claims t) (turn-at t) turn.Post
   unfolding round steps
   returns-3 c = rw (← c .before .before .before .before .before .before .before .before .before .before .before .before .before .before .before .before .before .before .before .before .before .before .before .before .before .before .before .before .before .reduce .ensures, c .before .before .before .before .before .before .before .before .before .before .before .before .before .before .before .before .before .before .before .before .before .before .before .s1 .given .1, ← c .before .before .before .before .before .before .before .before .before .before .before .before .before .before .before .before .before .before .before .before .same-quote .ensures, c .before .before .before .before .before .before .before .before .before .before .before .before .before .before .before .before .before .before .before .if1 .taken, ← c .before .before .before .before .before .before .before .before .before .before .before .before .before .before .before .before .check .ensures, c .before .before .before .before .before .before .before .before .before .before .q2 .given .1)
-    (rw (← c .before .before .before .before .before .before .before .before .cite2 .ensures, ← c .before .before .before .before .before .emit-eq .ensures, c .before .q3 .given .1))
+      (rw (← c .before .before .before .before .before .before .before .before .cite2 .ensures, ← c .before .before .before .before .before .emit-eq .ensures, c .before .q3 .given .1))
 
   enum-known-s1-2 : lts.Need-enum-known-s1-2 (claims t) (turn-at t) turn.Post
   enum-known-s1-2 c = search needs

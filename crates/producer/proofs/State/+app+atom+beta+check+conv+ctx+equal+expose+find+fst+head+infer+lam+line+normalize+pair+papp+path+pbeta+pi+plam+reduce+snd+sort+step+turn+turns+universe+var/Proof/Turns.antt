@@ -27,7 +27,6 @@ abbrev μ-loop : lts.MeasureT-loop
 μ-loop left rows₀ cells₀ d g t ty evidence s₀ current₀ row₀ i₀ rows cells s current row i = 32 - i
 
 module _ (t : ℕ) where
-
   loop-holds : lts.Need-loop-holds (claims t) (turns-at t) turns.Post Inv-loop μ-loop
   loop-holds c = search needs
 

@@ -21,7 +21,6 @@ abbrev claims : ℕ → lts.Claims
 claims t = (deeper-reads.Asked, deeper-reads.Learnt, infer-below t, infer.Post, shape-of-reads.Asked, shape-of-reads.Learnt, converting-reads.Asked, converting-reads.Learnt, sort-below t, sort.Post, ended-two-reads.Asked, ended-two-reads.Learnt)
 
 module _ (t : ℕ) where
-
   returns : lts.Need-returns (claims t) (universe-at t) universe.Post
   unfolding universe-body steps
   returns c = rw (law.universe-none _ _ _ _ _ (c .if1 .taken))
@@ -88,7 +87,7 @@ module _ (t : ℕ) where
   returns-4 : lts.Need-returns-4 (claims t) (universe-at t) universe.Post
   unfolding universe-body steps
   returns-4 c = rw (law.universe-in _ _ _ _ _ (c .before .before .before .before .before .before .before .before .before .before .before .before .before .before .before .before .before .before .before .before .before .before .before .before .before .before .if1 .left), ← c .before .before .before .before .before .before .before .before .before .before .before .before .before .before .before .before .before .before .before .before .before .before .before .before .before .deeper .ensures, ← c .before .before .before .before .before .before .before .before .before .before .before .before .before .before .before .before .before .before .before .before .before .before .infer .ensures, c .before .before .before .before .before .before .before .before .before .before .before .before .before .before .before .before .q1 .given .1, ← c .before .before .before .before .before .before .before .before .before .before .before .before .before .shape-of .ensures, law.not-universe _ (c .before .before .before .before .before .before .before .before .before .before .before .before .match2 .keys2))
-    (rw (lt-ltb _ _ (c .before .before .before .before .before .before .before .before .before .before .if2 .taken), ← c .before .before .before .before .before .before .before .before .converting .ensures, ← c .before .before .before .before .before .sort .ensures, law.ended-two-end, ← c .ended-two .ensures))
+      (rw (lt-ltb _ _ (c .before .before .before .before .before .before .before .before .before .before .if2 .taken), ← c .before .before .before .before .before .before .before .before .converting .ensures, ← c .before .before .before .before .before .sort .ensures, law.ended-two-end, ← c .ended-two .ensures))
 
   same-length-7 : lts.Need-same-length-7 (claims t) (universe-at t) universe.Post
   same-length-7 c = omega (arith, c .before .before .before .before .before .before .before .before .before .before .before .before .infer .kept)
@@ -99,7 +98,7 @@ module _ (t : ℕ) where
   returns-5 : lts.Need-returns-5 (claims t) (universe-at t) universe.Post
   unfolding universe-body steps
   returns-5 c = rw (law.universe-in _ _ _ _ _ (c .before .before .before .before .before .before .before .before .before .before .before .before .before .before .before .before .if1 .left), ← c .before .before .before .before .before .before .before .before .before .before .before .before .before .before .before .deeper .ensures, ← c .before .before .before .before .before .before .before .before .before .before .before .before .infer .ensures, c .before .before .before .before .before .before .q1 .given .1, ← c .before .before .before .shape-of .ensures, law.not-universe _ (c .before .before .match2 .keys2))
-    (rw (le-ltb _ _ (c .if2 .left)))
+      (rw (le-ltb _ _ (c .if2 .left)))
 
   pub part : {M : Type 1} → lts.Closed (claims t) (universe-at t) universe.Post M
   part = lts.spec (claims t) (universe-at t) universe.Post returns sub-down deeper-requires infer-requires enum-known-q1 enum-told same-length same-length-2 returns-2 shape-of-requires enum-known-shape same-length-3 same-length-4 returns-3 add-converting converting-requires sort-requires ended-two-requires same-length-5 same-length-6 returns-4 same-length-7 same-length-8 returns-5

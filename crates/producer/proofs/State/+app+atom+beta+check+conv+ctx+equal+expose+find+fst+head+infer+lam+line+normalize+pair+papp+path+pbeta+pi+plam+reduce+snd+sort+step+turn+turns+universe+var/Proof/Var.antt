@@ -18,7 +18,6 @@ abbrev claims : ℕ → lts.Claims
 claims t = (ctx-below t, ctx.Post, answers-Got-as-inferred-reads.Asked, answers-Got-as-inferred-reads.Learnt, lookup-reads.Asked, lookup-reads.Learnt, answers-Two-as-inferred-reads.Asked, answers-Two-as-inferred-reads.Learnt, cite2-reads.Asked, cite2-reads.Learnt)
 
 module _ (t : ℕ) where
-
   ctx-requires : lts.Need-ctx-requires (claims t) (var-at t) var.Post
   ctx-requires c κs = (omega (arith, c .before .before .before .before .pre .0), tt)
 
