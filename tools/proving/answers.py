@@ -39,7 +39,7 @@ FORWARD = ('as-got', 'as-four', 'as-inferred', 'as-reduced', 'as-two', 'as-round
 VALUES = ('answered', 'refused', 'no-run')
 
 # Laws to rewrite by after such a call, and before a call.
-AFTER = {'answered': ['law.told-end _ _ _ _']}
+AFTER = {'answered': ['law.told-end _ _ _ _ _']}
 BEFORE = {'ended-got': 'law.ended-got-end', 'ended-two': 'law.ended-two-end'}
 
 FOUND = ['use Rattle.ast.specs.declared.cells.Found.the-variants.{Nothing}']
