@@ -155,7 +155,7 @@ fn less(n: usize) -> usize
 
 // The limits of the next call: `more` types of the one at `at` are to be checked, the first of them at `ty`; where there are none, a call
 // starts at `at`.
-fn plan(bytes: &[u8], at: usize, ty: usize, more: usize, stack: &mut [u8]) -> Plan
+fn plan_next(bytes: &[u8], at: usize, ty: usize, more: usize, stack: &mut [u8]) -> Plan
     ensures { λ r. ⌜ r ≡ planned (length (now (stack .entry))) (now (bytes .entry)) at ty more ⌝ }
 {
     if 0 < more {
@@ -191,7 +191,7 @@ fn step(
 ) -> Turn
     ensures { λ r. ⌜ turn-end r (now (rows .exit)) (now (cells .exit)) ≡ turned (length (now (stack .entry))) (now (bytes .entry)) at ty more (machine (now (rows .entry)) (now (cells .entry)) state) ⌝ }
 {
-    let planned = plan(bytes, at, ty, more, stack);
+    let planned = plan_next(bytes, at, ty, more, stack);
     let size = planned.size;
     match size {
         Size::Fits(head, _, next) => {
