@@ -110,8 +110,8 @@ HAND = {
     'put-third': {'first': ['put-all _ _ _ _ _ _ _ _ _ _']},
     'put-row': {'first': ['put-thirds _ _ _ _ _ _ _ _ _ _ _ _ _ _ _ _ _ _ _ _ _ _ _ _ _ _']},
     'play': {
-        'Inv-loop': '(length stack ≡ length stack₀) × (length rows ≡ length rows₀) × (length cells ≡ length cells₀) × (length answers ≡ length answers₀) × (played calls (length stack₀) bytes 2 2 0 0 (machine rows₀ cells₀ s₀) answers₀ ≡ played left (length stack₀) bytes at ty more done (machine rows cells s) answers)',
-        'μ-loop': 'left',
+        'Inv-loop': '(length stack ≡ length stack₀) × (length rows ≡ length rows₀) × (length cells ≡ length cells₀) × (length answers ≡ length answers₀) × (played calls (length stack₀) bytes 2 2 0 0 (machine rows₀ cells₀ s₀) answers₀ ≡ played waiting (length stack₀) bytes at ty more done (machine rows cells s) answers)',
+        'μ-loop': 'waiting',
         'use': ['use lib.ListN.{length}', 'use Rattle.producer.specs.Machine.{machine}'],
         'over': {
             'loop-again': '(%s, rw (@loop@ .inv .4, law.played-turn _ _ _ _ _ _ _ _ _ _ _ _ (@loop@ .inv .0) (@step@ .ensures) (@call-from@ .ensures) (@loop-test@ .taken), ← @put-answer@ .ensures, ← @succ@ .ensures))' % ', '.join(['omega (arith, @loop@ .inv, @step@ .kept, @put-answer@ .kept)'] * 4),

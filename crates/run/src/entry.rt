@@ -242,8 +242,8 @@ fn play(
     let mut ty: usize = 2;
     let mut more: usize = 0;
     let mut done: u32 = 0;
-    let mut left = calls;
-    while 0 < left {
+    let mut waiting = calls;
+    while 0 < waiting {
         let t = step(s, bytes, at, ty, more, stack, rows, cells);
         put_answer(answers, done, t.number, t.row, t.result, t.deepest);
         s = t.state;
@@ -251,7 +251,7 @@ fn play(
         ty = t.next;
         more = t.more;
         done = succ(done);
-        left = left - 1;
+        waiting = waiting - 1;
     }
     s
 }
