@@ -168,9 +168,6 @@ find [] k h q i = absurd (rw (leb·suc-zero k) at h)
 find {t} (l ∷ ls) ℕ.zero h q i = here q (fillings (pattern l) t) i
 find (l ∷ ls) (ℕ.suc k) h q i = there (find ls k (rw (leb·suc-suc (suc k) (length ls)) at h) q i)
 
-found : {n : ℕ} {t : Value} → T (ltb n (length lines)) → line n lines .rule ≡ n → instance (fillings (pattern (line n lines)) t) (pattern (line n lines)) ≡ t → Instance n t lines
-found {n} h q i = find lines n h q i
-
 pub complete : {n : ℕ} {js : List Judgment} {j : Judgment} → Follows n js j → Instance n (step js j) lines
 -- written by tools/written.py: each rule has its line
 complete R.by·ctx·nil = find lines 0 tt refl refl
