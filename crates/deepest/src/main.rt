@@ -3,6 +3,8 @@
 // that it uses up to there: a row or a cell less, and it would be 18 or 20.
 //
 // Stack: 3.7 MB for the tables and 3.6 MB for 4,096 levels of nesting.
+#![tactic(auto)]
+
 use libc::STDOUT_FILENO;
 
 fn say(s: &[u8]) {

@@ -1,4 +1,6 @@
 // The library for C and Rust: one function.
+#![tactic(auto)]
+
 ghost use Rattle.exports.specs.Exports.{Exports};
 
 use ast::words::put;

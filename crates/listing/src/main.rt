@@ -1,5 +1,7 @@
 // The listing of one run from standard input: 682 rows, 2,048 cells, 4,096 answers. Its text goes out through windows: the first is
 // small, so that a short listing takes several too, and each is twice the one before, up to the buffer.
+#![tactic(auto)]
+
 ghost use Rattle.std.specs.Prelude.{◌≤◌};
 
 use libc::STDOUT_FILENO;

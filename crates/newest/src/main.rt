@@ -1,5 +1,7 @@
 // Searches tables that no run makes, for the highest row with a judgment: by the plain search, over working words that say nothing, and
 // then by the index that is made over them. A line has the table, what is asked for, and both answers.
+#![tactic(auto)]
+
 use ast::cells::{Found, put_cell};
 use ast::words::put;
 use libc::STDOUT_FILENO;

@@ -66,6 +66,7 @@ pub enum Round {
 }
 
 // A conversion has ended, however it did.
+#[tactic(auto, unfolding(crate::specs::Machine::ended_1))]
 pub fn ended_got(q: Got) -> Got
     ensures { result ≡ ended_1 q }
 {
@@ -82,6 +83,7 @@ pub fn ended_got(q: Got) -> Got
 }
 
 // The same of two numbers.
+#[tactic(auto, unfolding(crate::specs::Machine::ended_2))]
 pub fn ended_two(q: Two) -> Two
     ensures { result ≡ ended_2 q }
 {
@@ -99,6 +101,7 @@ pub fn ended_two(q: Two) -> Two
 
 // The refusal of one method as the refusal of another, whose answer has another type. An answer that is none is refused with 0: no caller has one.
 impl Two {
+    #[tactic(auto, unfolding(crate::specs::Answers::two_as_got))]
     pub fn as_got(self) -> Got
         ensures { result ≡ two_as_got self }
     {
@@ -109,6 +112,7 @@ impl Two {
         }
     }
 
+    #[tactic(auto, unfolding(crate::specs::Answers::two_as_four))]
     pub fn as_four(self) -> Four
         ensures { result ≡ two_as_four self }
     {
@@ -119,6 +123,7 @@ impl Two {
         }
     }
 
+    #[tactic(auto, unfolding(crate::specs::Answers::two_as_inferred))]
     pub fn as_inferred(self) -> Inferred
         ensures { result ≡ two_as_inferred self }
     {
@@ -129,6 +134,7 @@ impl Two {
         }
     }
 
+    #[tactic(auto, unfolding(crate::specs::Answers::two_as_reduced))]
     pub fn as_reduced(self) -> Reduced
         ensures { result ≡ two_as_reduced self }
     {
@@ -141,6 +147,7 @@ impl Two {
 }
 
 impl Got {
+    #[tactic(auto, unfolding(crate::specs::Answers::got_as_two))]
     pub fn as_two(self) -> Two
         ensures { result ≡ got_as_two self }
     {
@@ -151,6 +158,7 @@ impl Got {
         }
     }
 
+    #[tactic(auto, unfolding(crate::specs::Answers::got_as_four))]
     pub fn as_four(self) -> Four
         ensures { result ≡ got_as_four self }
     {
@@ -161,6 +169,7 @@ impl Got {
         }
     }
 
+    #[tactic(auto, unfolding(crate::specs::Answers::got_as_inferred))]
     pub fn as_inferred(self) -> Inferred
         ensures { result ≡ got_as_inferred self }
     {
@@ -171,6 +180,7 @@ impl Got {
         }
     }
 
+    #[tactic(auto, unfolding(crate::specs::Answers::got_as_reduced))]
     pub fn as_reduced(self) -> Reduced
         ensures { result ≡ got_as_reduced self }
     {
@@ -181,6 +191,7 @@ impl Got {
         }
     }
 
+    #[tactic(auto, unfolding(crate::specs::Answers::got_as_round))]
     pub fn as_round(self) -> Round
         ensures { result ≡ got_as_round self }
     {
@@ -193,6 +204,7 @@ impl Got {
 }
 
 impl Four {
+    #[tactic(auto, unfolding(crate::specs::Answers::four_as_inferred))]
     pub fn as_inferred(self) -> Inferred
         ensures { result ≡ four_as_inferred self }
     {
@@ -205,6 +217,7 @@ impl Four {
 }
 
 impl Inferred {
+    #[tactic(auto, unfolding(crate::specs::Answers::inferred_as_two))]
     pub fn as_two(self) -> Two
         ensures { result ≡ inferred_as_two self }
     {
@@ -217,6 +230,7 @@ impl Inferred {
 }
 
 impl Done {
+    #[tactic(auto, unfolding(crate::specs::Answers::done_as_two))]
     pub fn as_two(self) -> Two
         ensures { result ≡ done_as_two self }
     {

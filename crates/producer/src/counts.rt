@@ -34,6 +34,7 @@ impl State {
     }
 
     // One level in, with `left` levels below it.
+    #[tactic(auto, unfolding(crate::specs::Machine::deeper_of))]
     pub fn deeper(mut self, left: u32) -> State
         ensures { result ≡ deeper_of self left }
     {
@@ -43,6 +44,7 @@ impl State {
     }
 
     // A call is about to be made, and an argument is to be made for it: refuses (19) before that where nothing is left.
+    #[tactic(auto, unfolding(crate::proofs::Steps::steps))]
     pub fn ready(self, left: u32, rows: &[u32], cells: &[u32]) -> Done
         ensures { end_0 result rows.now cells.now ≡ (callees left).ready (machine rows.now cells.now self) }
     {
@@ -54,6 +56,7 @@ impl State {
     }
 
     // With `n` conversions begun.
+    #[tactic(auto, unfolding(crate::specs::Machine::conversions_of))]
     pub fn converting(mut self, n: u32) -> State
         ensures { result ≡ conversions_of n self }
     {

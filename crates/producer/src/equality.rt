@@ -13,7 +13,7 @@ use ast::{kinds, refusals};
 
 impl State {
     // The term reduced at its root, with its type and the row of the equation.
-    #[cycle(app_atom_beta_check_conv_ctx_equal_expose_find_fst_head_infer_lam_line_normalize_pair_papp_path_pbeta_pi_plam_reduce_snd_sort_step_turn_turns_universe_var)]
+    #[cycle(typing)]
     pub fn reduce(
         self,
         left: u32,
@@ -98,7 +98,7 @@ impl State {
     }
 
     // A lam that is applied to `r`.
-    #[cycle(app_atom_beta_check_conv_ctx_equal_expose_find_fst_head_infer_lam_line_normalize_pair_papp_path_pbeta_pi_plam_reduce_snd_sort_step_turn_turns_universe_var)]
+    #[cycle(typing)]
     pub fn beta(
         self,
         left: u32,
@@ -141,6 +141,7 @@ impl State {
     }
 
     // The two substitutions of a beta step, and its row.
+    #[tactic(auto, unfolding(crate::specs::Equality::beta_row, crate::proofs::Steps::steps))]
     pub fn beta_row(
         self,
         left: u32,
@@ -176,7 +177,7 @@ impl State {
     }
 
     // A papp: the path `p` along the interval `r`.
-    #[cycle(app_atom_beta_check_conv_ctx_equal_expose_find_fst_head_infer_lam_line_normalize_pair_papp_path_pbeta_pi_plam_reduce_snd_sort_step_turn_turns_universe_var)]
+    #[cycle(typing)]
     pub fn line(
         self,
         left: u32,
@@ -222,7 +223,7 @@ impl State {
     }
 
     // A plam that is applied to `r`.
-    #[cycle(app_atom_beta_check_conv_ctx_equal_expose_find_fst_head_infer_lam_line_normalize_pair_papp_path_pbeta_pi_plam_reduce_snd_sort_step_turn_turns_universe_var)]
+    #[cycle(typing)]
     pub fn pbeta(
         self,
         left: u32,
@@ -260,7 +261,7 @@ impl State {
     }
 
     // `t` goes to `out`, of a type that its parts have given by the rows `x` and `y`: a side of a path's type, the second part of a pair.
-    #[cycle(app_atom_beta_check_conv_ctx_equal_expose_find_fst_head_infer_lam_line_normalize_pair_papp_path_pbeta_pi_plam_reduce_snd_sort_step_turn_turns_universe_var)]
+    #[cycle(typing)]
     pub fn step(
         self,
         left: u32,
@@ -290,7 +291,7 @@ impl State {
     }
 
     // The term with its root reduced while that goes, and the row of the equation.
-    #[cycle(app_atom_beta_check_conv_ctx_equal_expose_find_fst_head_infer_lam_line_normalize_pair_papp_path_pbeta_pi_plam_reduce_snd_sort_step_turn_turns_universe_var)]
+    #[cycle(typing)]
     pub fn normalize(
         self,
         left: u32,
@@ -321,7 +322,7 @@ impl State {
     }
 
     // At most 32 root reductions of `t`, which is equal to itself by the row `evidence`; refuses (15) one more.
-    #[cycle(app_atom_beta_check_conv_ctx_equal_expose_find_fst_head_infer_lam_line_normalize_pair_papp_path_pbeta_pi_plam_reduce_snd_sort_step_turn_turns_universe_var)]
+    #[cycle(typing)]
     pub fn turns(
         self,
         left: u32,
@@ -363,7 +364,7 @@ impl State {
     }
 
     // One root reduction, at the type wanted; refuses (14) one at a type with another quote.
-    #[cycle(app_atom_beta_check_conv_ctx_equal_expose_find_fst_head_infer_lam_line_normalize_pair_papp_path_pbeta_pi_plam_reduce_snd_sort_step_turn_turns_universe_var)]
+    #[cycle(typing)]
     pub fn turn(
         self,
         left: u32,
@@ -400,7 +401,7 @@ impl State {
     }
 
     // The row that two terms are equal: by their quotes, or by those of their normal forms; refuses (13) where these differ too.
-    #[cycle(app_atom_beta_check_conv_ctx_equal_expose_find_fst_head_infer_lam_line_normalize_pair_papp_path_pbeta_pi_plam_reduce_snd_sort_step_turn_turns_universe_var)]
+    #[cycle(typing)]
     pub fn equal(
         self,
         left: u32,

@@ -12,13 +12,14 @@ use ast::words::succ;
 use ast::{kinds, refusals};
 
 // What is done to an interval's dimensions: shift from k, put r for k.
-#[derive(Drop)]
+#[derive(Clone, Copy)]
 pub enum IOp {
     IShift(u32),
     ISubst(u32, u32),
 }
 
 // A rule for each operation.
+#[tactic(auto, unfolding(crate::specs::Intervals::by_iop))]
 pub fn by_iop(op: IOp, a: u32, b: u32) -> u32
     ensures { result ≡ by_iop op a b }
 {
@@ -30,7 +31,7 @@ pub fn by_iop(op: IOp, a: u32, b: u32) -> u32
 
 impl State {
     // The row of an interval over `d` dimensions.
-    #[cycle(interval_interval_parts)]
+    #[cycle(interval)]
     pub fn interval(self, left: u32, rows: &mut [u32], cells: &[u32], d: u32, r: u32) -> Got
         ensures { end result rows.new cells.now ≡ (callees left).interval d r (machine rows.old cells.now self) }
     {
@@ -141,7 +142,7 @@ impl State {
     }
 
     // A meet or a join, whose quote is `quote`.
-    #[cycle(interval_interval_parts)]
+    #[cycle(interval)]
     pub fn interval_parts(
         self,
         left: u32,
@@ -180,6 +181,7 @@ impl State {
     }
 
     // The row of a shift or a substitution, from the quote `p` to the quote `q`.
+    #[tactic(auto, unfolding(crate::specs::Intervals::iemit, crate::proofs::Steps::steps))]
     pub fn iemit(
         self,
         rows: &mut [u32],
@@ -214,6 +216,7 @@ impl State {
     }
 
     // The row, once the result is there.
+    #[tactic(auto, unfolding(crate::specs::Intervals::ifinished, crate::proofs::Steps::steps))]
     pub fn ifinish(
         self,
         rows: &mut [u32],
@@ -235,6 +238,7 @@ impl State {
     }
 
     // The result is made, then the row.
+    #[tactic(auto, unfolding(crate::specs::Intervals::ifinish, crate::proofs::Steps::steps))]
     pub fn imake(
         self,
         rows: &mut [u32],
@@ -256,6 +260,7 @@ impl State {
     }
 
     // The dimension `n`, shifted from `k` on.
+    #[tactic(auto, unfolding(crate::specs::Intervals::idim_shift, crate::proofs::Steps::steps))]
     pub fn idim_shift(
         self,
         left: u32,
@@ -298,6 +303,7 @@ impl State {
     }
 
     // The dimension `n`, where `r` is put for `k`.
+    #[tactic(auto, unfolding(crate::specs::Intervals::idim_subst, crate::proofs::Steps::steps))]
     pub fn idim_subst(
         self,
         left: u32,
@@ -344,6 +350,7 @@ impl State {
     }
 
     // The dimension `n`.
+    #[tactic(auto, unfolding(crate::specs::Intervals::idim, crate::proofs::Steps::steps))]
     pub fn idim(
         self,
         left: u32,
@@ -362,7 +369,7 @@ impl State {
     }
 
     // The interval with its dimensions shifted or substituted: the result, and the row.
-    #[cycle(ineg_ipair_itransform)]
+    #[cycle(itransform)]
     pub fn itransform(self, left: u32, rows: &mut [u32], cells: &mut [u32], i: u32, op: IOp) -> Two
         ensures { end_2 result rows.new cells.new ≡ (callees left).itransform i op (machine rows.old cells.old self) }
     {
@@ -401,7 +408,7 @@ impl State {
     }
 
     // A negation.
-    #[cycle(ineg_ipair_itransform)]
+    #[cycle(itransform)]
     pub fn ineg(
         self,
         left: u32,
@@ -423,7 +430,7 @@ impl State {
     }
 
     // A meet or a join.
-    #[cycle(ineg_ipair_itransform)]
+    #[cycle(itransform)]
     pub fn ipair(
         self,
         left: u32,

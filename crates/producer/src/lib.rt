@@ -1,4 +1,6 @@
 // The producer of producer.rs over lent slices of 32-bit words: rows, cells, and the sixteen reference functions.
+#![tactic(auto)]
+
 pub mod codes; // the numbers of judgments and rules
 pub mod answers; // what the functions answer; refusals, from one answer to another
 pub mod counts; // the counts, for a run, a call, a function that is entered
@@ -13,7 +15,7 @@ pub mod equality; // normalize, equal, reduce
 
 // The counts, which travel by value through methods that give them back. They stand at the crate's root for their short path: the
 // checker names files after it (docs/DECISIONS.md, "Short names").
-#[derive(Drop)]
+#[derive(Clone, Copy)]
 pub struct State {
     pub rows: u32,
     pub cells: u32,

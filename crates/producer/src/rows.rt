@@ -13,7 +13,7 @@ use ast::refusals;
 use ast::words::{put, succ, word};
 
 // The rows cited: how many, and ten words.
-#[derive(Drop)]
+#[derive(Clone, Copy)]
 pub struct Refs {
     pub count: u32,
     pub r0: u32,
@@ -29,6 +29,7 @@ pub struct Refs {
 }
 
 // No row cited.
+#[tactic(auto, unfolding(crate::specs::Machine::no_refs))]
 pub fn cite0() -> Refs
     ensures { result ≡ no_refs }
 {
@@ -48,6 +49,7 @@ pub fn cite0() -> Refs
 }
 
 // A row cited before others.
+#[tactic(auto, unfolding(crate::specs::Machine::cons_refs))]
 pub fn cite_before(x: u32, refs: Refs) -> Refs
     ensures { result ≡ cons_refs x refs }
 {
@@ -68,6 +70,7 @@ pub fn cite_before(x: u32, refs: Refs) -> Refs
 }
 
 // One row cited.
+#[tactic(auto, unfolding(crate::specs::Machine::refs_1))]
 pub fn cite1(x0: u32) -> Refs
     ensures { result ≡ refs_1 x0 }
 {
@@ -76,6 +79,7 @@ pub fn cite1(x0: u32) -> Refs
 }
 
 // Two rows cited.
+#[tactic(auto, unfolding(crate::specs::Machine::refs_2))]
 pub fn cite2(x0: u32, x1: u32) -> Refs
     ensures { result ≡ refs_2 x0 x1 }
 {
@@ -84,6 +88,7 @@ pub fn cite2(x0: u32, x1: u32) -> Refs
 }
 
 // Three rows cited.
+#[tactic(auto, unfolding(crate::specs::Machine::refs_3))]
 pub fn cite3(x0: u32, x1: u32, x2: u32) -> Refs
     ensures { result ≡ refs_3 x0 x1 x2 }
 {
@@ -92,6 +97,7 @@ pub fn cite3(x0: u32, x1: u32, x2: u32) -> Refs
 }
 
 // Four rows cited.
+#[tactic(auto, unfolding(crate::specs::Machine::refs_4))]
 pub fn cite4(x0: u32, x1: u32, x2: u32, x3: u32) -> Refs
     ensures { result ≡ refs_4 x0 x1 x2 x3 }
 {
@@ -100,6 +106,7 @@ pub fn cite4(x0: u32, x1: u32, x2: u32, x3: u32) -> Refs
 }
 
 // Five rows cited.
+#[tactic(auto, unfolding(crate::specs::Machine::refs_5))]
 pub fn cite5(x0: u32, x1: u32, x2: u32, x3: u32, x4: u32) -> Refs
     ensures { result ≡ refs_5 x0 x1 x2 x3 x4 }
 {
@@ -108,6 +115,7 @@ pub fn cite5(x0: u32, x1: u32, x2: u32, x3: u32, x4: u32) -> Refs
 }
 
 // Six rows cited.
+#[tactic(auto, unfolding(crate::specs::Machine::refs_6))]
 pub fn cite6(x0: u32, x1: u32, x2: u32, x3: u32, x4: u32, x5: u32) -> Refs
     ensures { result ≡ refs_6 x0 x1 x2 x3 x4 x5 }
 {
@@ -116,6 +124,7 @@ pub fn cite6(x0: u32, x1: u32, x2: u32, x3: u32, x4: u32, x5: u32) -> Refs
 }
 
 // Seven rows cited.
+#[tactic(auto, unfolding(crate::specs::Machine::refs_7))]
 pub fn cite7(x0: u32, x1: u32, x2: u32, x3: u32, x4: u32, x5: u32, x6: u32) -> Refs
     ensures { result ≡ refs_7 x0 x1 x2 x3 x4 x5 x6 }
 {
@@ -124,6 +133,7 @@ pub fn cite7(x0: u32, x1: u32, x2: u32, x3: u32, x4: u32, x5: u32, x6: u32) -> R
 }
 
 // Ten rows cited.
+#[tactic(auto, unfolding(crate::specs::Machine::refs_10))]
 pub fn cite10(
     x0: u32,
     x1: u32,
@@ -145,6 +155,7 @@ pub fn cite10(
 }
 
 // The first row of the one, where it has any, cited before the other.
+#[tactic(auto, unfolding(crate::specs::Machine::join_refs))]
 pub fn cite_first(first: Refs, refs: Refs) -> Refs
     ensures { result ≡ join_refs first refs }
 {
@@ -182,6 +193,7 @@ pub fn same_row(rows: &[u32], i: u32, kind: u32, a: u32, b: u32, c: u32, d: u32,
 }
 
 // The hash of a judgment.
+#[tactic(auto, unfolding(crate::specs::Machine::row_hash))]
 pub fn row_hash(kind: u32, a: u32, b: u32, c: u32, d: u32, e: u32) -> u32
     ensures { result ≡ row_hash kind a b c d e }
 {
@@ -191,6 +203,7 @@ pub fn row_hash(kind: u32, a: u32, b: u32, c: u32, d: u32, e: u32) -> u32
 }
 
 // Where the number of the row after `i` on a path stands.
+#[tactic(auto, unfolding(crate::specs::Machine::row_slot))]
 pub fn row_slot(i: u32, h: u32) -> usize
     ensures { result ≡ row_slot i h }
 {
@@ -198,6 +211,7 @@ pub fn row_slot(i: u32, h: u32) -> usize
 }
 
 // The row after `i` on a path: `n` where there is none.
+#[tactic(auto, unfolding(crate::specs::Machine::row_slot, crate::specs::Machine::quarter))]
 pub fn next_row(rows: &[u32], n: u32, i: u32, h: u32) -> u32
     ensures { result ≡ onward row_slot quarter rows.now n i h }
 {
@@ -207,6 +221,7 @@ pub fn next_row(rows: &[u32], n: u32, i: u32, h: u32) -> u32
 }
 
 // The last row below `n` that has the judgment's kind and arguments.
+#[tactic(auto, unfolding(crate::specs::Machine::find_row))]
 pub fn find_row(rows: &[u32], n: u32, kind: u32, a: u32, b: u32, c: u32, d: u32, e: u32) -> Found
     ensures { result ≡ find_row rows.now n kind a b c d e }
 {
@@ -223,6 +238,7 @@ pub fn find_row(rows: &[u32], n: u32, kind: u32, a: u32, b: u32, c: u32, d: u32,
 }
 
 // Where the number of a row that comes has to stand.
+#[tactic(auto, unfolding(crate::specs::Machine::row_end))]
 pub fn row_end(rows: &[u32], n: u32, hash: u32) -> usize
     ensures { result ≡ row_end rows.now n hash }
 {
@@ -238,6 +254,7 @@ pub fn row_end(rows: &[u32], n: u32, hash: u32) -> usize
 }
 
 // The row `n` with the judgment comes at the end of its path.
+#[tactic(auto, unfolding(crate::specs::Machine::link_row, crate::specs::Machine::row_end))]
 pub fn link_row(rows: &mut [u32], n: u32, kind: u32, a: u32, b: u32, c: u32, d: u32, e: u32)
     ensures { rows.new ≡ link_row rows.old n kind a b c d e }
 {
@@ -303,6 +320,7 @@ pub fn put_row(
 
 impl State {
     // The row with the judgment: the last that has it, or a new one; refuses (18) where none is left.
+    #[tactic(auto, unfolding(crate::specs::Machine::emit, crate::specs::Machine::known_row, crate::specs::Machine::known_or, crate::specs::Machine::new_row, crate::specs::Machine::add_row, crate::proofs::Steps::steps))]
     pub fn emit(
         mut self,
         rows: &mut [u32],
@@ -335,6 +353,7 @@ impl State {
     }
 
     // The row of a typing: by quotes.
+    #[tactic(auto, unfolding(crate::specs::Machine::emit_has, crate::proofs::Steps::steps))]
     pub fn emit_has(
         self,
         rows: &mut [u32],
@@ -367,6 +386,7 @@ impl State {
     }
 
     // The row of an equation: by quotes.
+    #[tactic(auto, unfolding(crate::specs::Machine::emit_eq, crate::proofs::Steps::steps))]
     pub fn emit_eq(
         self,
         rows: &mut [u32],

@@ -11,6 +11,7 @@ use ast::{kinds, refusals};
 
 impl State {
     // The cell with the kind and the parts: the one that has them, or a new one; refuses (20) where none is left.
+    #[tactic(auto, unfolding(crate::specs::Machine::intern, crate::specs::Machine::known_or, crate::specs::Machine::new_cell, crate::specs::Machine::add_cell, crate::proofs::Steps::steps))]
     pub fn intern(
         mut self,
         rows: &[u32],
@@ -39,6 +40,7 @@ impl State {
     }
 
     // Remembers an inference: a key has one cell, which is written over where it is stored again; refuses (20) where none is left.
+    #[tactic(auto, unfolding(crate::specs::Machine::remember, crate::specs::Machine::remembered_or, crate::specs::Machine::new_memory, crate::specs::Machine::add_cell, crate::specs::Machine::replace, crate::proofs::Steps::steps))]
     pub fn remember(
         mut self,
         rows: &[u32],
@@ -70,6 +72,7 @@ impl State {
     }
 
     // A cell that is an argument of a call about to be made: 19 precedes 20.
+    #[tactic(auto, unfolding(crate::specs::Callees::prepared, crate::proofs::Steps::steps))]
     pub fn prepare(
         self,
         left: u32,

@@ -13,7 +13,7 @@ use ast::words::succ;
 use ast::{kinds, refusals};
 
 // What is done to a term: shift from k, put r for k; of variables, or of dimensions.
-#[derive(Drop)]
+#[derive(Clone, Copy)]
 pub enum Op {
     Shift(u32),
     Subst(u32, u32),
@@ -29,6 +29,7 @@ pub enum Inner {
 }
 
 // A rule for each operation.
+#[tactic(auto, unfolding(crate::specs::Transforms::by_op))]
 pub fn by_op(op: Op, a: u32, b: u32, c: u32, d: u32) -> u32
     ensures { result ≡ by_op op a b c d }
 {
@@ -42,6 +43,7 @@ pub fn by_op(op: Op, a: u32, b: u32, c: u32, d: u32) -> u32
 
 // The rule of an operation at a term of a kind. A variable has several, by how it compares with `k`: it is not asked for here, nor is
 // what is no term.
+#[tactic(auto, unfolding(crate::specs::Transforms::rule_of))]
 pub fn rule_of(op: Op, kind: u32) -> u32
     ensures { result ≡ rule_of op kind }
 {
@@ -145,6 +147,7 @@ pub fn rule_of(op: Op, kind: u32) -> u32
 
 impl State {
     // The row of a transform, from the quote `p` to the quote `q`.
+    #[tactic(auto, unfolding(crate::specs::Transforms::temit, crate::proofs::Steps::steps))]
     pub fn temit(
         self,
         rows: &mut [u32],
@@ -172,6 +175,7 @@ impl State {
     }
 
     // The row, once the result is there.
+    #[tactic(auto, unfolding(crate::specs::Transforms::finished, crate::proofs::Steps::steps))]
     pub fn finish(
         self,
         rows: &mut [u32],
@@ -193,6 +197,7 @@ impl State {
     }
 
     // The result is made, then the row, by the rule of its kind.
+    #[tactic(auto, unfolding(crate::specs::Transforms::finish, crate::specs::Transforms::rule_of, crate::proofs::Steps::steps))]
     pub fn tmake(
         self,
         rows: &mut [u32],
@@ -217,6 +222,7 @@ impl State {
     }
 
     // The same of a variable, which has a rule for each way that it compares.
+    #[tactic(auto, unfolding(crate::specs::Transforms::finish, crate::proofs::Steps::steps))]
     pub fn tmake_var(
         self,
         rows: &mut [u32],
@@ -236,6 +242,7 @@ impl State {
     }
 
     // The variable `n`, shifted from `k` on.
+    #[tactic(auto, unfolding(crate::specs::Transforms::tvar_shift, crate::proofs::Steps::steps))]
     pub fn tvar_shift(
         self,
         left: u32,
@@ -268,6 +275,7 @@ impl State {
     }
 
     // The variable `n`, where `r` is put for `k`.
+    #[tactic(auto, unfolding(crate::specs::Transforms::tvar_subst, crate::proofs::Steps::steps))]
     pub fn tvar_subst(
         self,
         left: u32,
@@ -304,6 +312,7 @@ impl State {
     }
 
     // The variable `n`.
+    #[tactic(auto, unfolding(crate::specs::Transforms::tvar, crate::proofs::Steps::steps))]
     pub fn tvar(self, left: u32, rows: &mut [u32], cells: &mut [u32], i: u32, n: u32, op: Op) -> Two
         ensures { end_2 result rows.new cells.new ≡ tvar (callees left) i n op (machine rows.old cells.old self) }
     {
@@ -322,6 +331,7 @@ impl State {
     }
 
     // The interval of a papp, with the rows that this cites.
+    #[tactic(auto, unfolding(crate::specs::Transforms::tinterval, crate::proofs::Steps::steps))]
     pub fn tinterval(self, left: u32, rows: &mut [u32], cells: &mut [u32], r: u32, op: Op) -> Cited
         ensures { end_cited result rows.new cells.new ≡ tinterval (callees left) r op (machine rows.old cells.old self) }
     {
@@ -352,7 +362,7 @@ impl State {
     }
 
     // The term with its variables or dimensions shifted or substituted: the result, and the row.
-    #[cycle(compound_tapp_tbinder_tlam_tpair_tpapp_tpath_tplam_tproject_transform_under_under_subst)]
+    #[cycle(transform)]
     pub fn transform(self, left: u32, rows: &mut [u32], cells: &mut [u32], i: u32, op: Op) -> Two
         ensures { end_2 result rows.new cells.new ≡ (callees left).transform i op (machine rows.old cells.old self) }
     {
@@ -369,7 +379,7 @@ impl State {
     }
 
     // A term that is no variable: by its kind, and as it is where it has no parts.
-    #[cycle(compound_tapp_tbinder_tlam_tpair_tpapp_tpath_tplam_tproject_transform_under_under_subst)]
+    #[cycle(transform)]
     pub fn compound(
         self,
         left: u32,
@@ -421,7 +431,7 @@ impl State {
     }
 
     // Two parts, the second under a variable, and both shown: a pi, a sigma.
-    #[cycle(compound_tapp_tbinder_tlam_tpair_tpapp_tpath_tplam_tproject_transform_under_under_subst)]
+    #[cycle(transform)]
     pub fn tbinder(
         self,
         left: u32,
@@ -453,7 +463,7 @@ impl State {
     }
 
     // The annotation is transformed, and its row not cited: the quote lacks it.
-    #[cycle(compound_tapp_tbinder_tlam_tpair_tpapp_tpath_tplam_tproject_transform_under_under_subst)]
+    #[cycle(transform)]
     pub fn tlam(
         self,
         left: u32,
@@ -484,7 +494,7 @@ impl State {
     }
 
     // An application.
-    #[cycle(compound_tapp_tbinder_tlam_tpair_tpapp_tpath_tplam_tproject_transform_under_under_subst)]
+    #[cycle(transform)]
     pub fn tapp(
         self,
         left: u32,
@@ -510,7 +520,7 @@ impl State {
     }
 
     // A path type: its first part lies under a dimension.
-    #[cycle(compound_tapp_tbinder_tlam_tpair_tpapp_tpath_tplam_tproject_transform_under_under_subst)]
+    #[cycle(transform)]
     pub fn tpath(
         self,
         left: u32,
@@ -546,7 +556,7 @@ impl State {
     }
 
     // As of a lam, the annotation's row is not cited.
-    #[cycle(compound_tapp_tbinder_tlam_tpair_tpapp_tpath_tplam_tproject_transform_under_under_subst)]
+    #[cycle(transform)]
     pub fn tplam(
         self,
         left: u32,
@@ -577,7 +587,7 @@ impl State {
     }
 
     // A path that is applied: its interval has dimensions, and no variables.
-    #[cycle(compound_tapp_tbinder_tlam_tpair_tpapp_tpath_tplam_tproject_transform_under_under_subst)]
+    #[cycle(transform)]
     pub fn tpapp(
         self,
         left: u32,
@@ -604,7 +614,7 @@ impl State {
     }
 
     // A pair: as of a lam, the annotation's row is not cited.
-    #[cycle(compound_tapp_tbinder_tlam_tpair_tpapp_tpath_tplam_tproject_transform_under_under_subst)]
+    #[cycle(transform)]
     pub fn tpair(
         self,
         left: u32,
@@ -635,7 +645,7 @@ impl State {
     }
 
     // One part: a projection.
-    #[cycle(compound_tapp_tbinder_tlam_tpair_tpapp_tpath_tplam_tproject_transform_under_under_subst)]
+    #[cycle(transform)]
     pub fn tproject(
         self,
         left: u32,
@@ -657,7 +667,7 @@ impl State {
     }
 
     // The operation under one more binder, of a dimension or of a variable, with the rows that this cites.
-    #[cycle(compound_tapp_tbinder_tlam_tpair_tpapp_tpath_tplam_tproject_transform_under_under_subst)]
+    #[cycle(transform)]
     pub fn under(
         self,
         left: u32,
@@ -709,7 +719,7 @@ impl State {
     }
 
     // A substitution under one more binder: the term put is shifted.
-    #[cycle(compound_tapp_tbinder_tlam_tpair_tpapp_tpath_tplam_tproject_transform_under_under_subst)]
+    #[cycle(transform)]
     pub fn under_subst(
         self,
         left: u32,

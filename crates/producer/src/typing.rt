@@ -15,7 +15,7 @@ use ast::{kinds, refusals};
 
 impl State {
     // The row of a context: a known one answers its row.
-    #[cycle(app_atom_beta_check_conv_ctx_equal_expose_find_fst_head_infer_lam_line_normalize_pair_papp_path_pbeta_pi_plam_reduce_snd_sort_step_turn_turns_universe_var)]
+    #[cycle(typing)]
     pub fn ctx(self, left: u32, rows: &mut [u32], cells: &mut [u32], d: u32, g: u32) -> Got
         ensures { end result rows.new cells.new ≡ (callees left).ctx d g (machine rows.old cells.old self) }
     {
@@ -71,7 +71,7 @@ impl State {
     }
 
     // The type with its head exposed, and the row that the term has it.
-    #[cycle(app_atom_beta_check_conv_ctx_equal_expose_find_fst_head_infer_lam_line_normalize_pair_papp_path_pbeta_pi_plam_reduce_snd_sort_step_turn_turns_universe_var)]
+    #[cycle(typing)]
     pub fn expose(
         self,
         left: u32,
@@ -122,7 +122,7 @@ impl State {
     }
 
     // The level of a type, and the row that it has it; refuses (11) a term that is no type.
-    #[cycle(app_atom_beta_check_conv_ctx_equal_expose_find_fst_head_infer_lam_line_normalize_pair_papp_path_pbeta_pi_plam_reduce_snd_sort_step_turn_turns_universe_var)]
+    #[cycle(typing)]
     pub fn universe(
         self,
         left: u32,
@@ -156,7 +156,7 @@ impl State {
     }
 
     // The level of a type that has its universe only once exposed.
-    #[cycle(app_atom_beta_check_conv_ctx_equal_expose_find_fst_head_infer_lam_line_normalize_pair_papp_path_pbeta_pi_plam_reduce_snd_sort_step_turn_turns_universe_var)]
+    #[cycle(typing)]
     pub fn sort(
         self,
         left: u32,
@@ -182,7 +182,7 @@ impl State {
     }
 
     // The row that the term has the type.
-    #[cycle(app_atom_beta_check_conv_ctx_equal_expose_find_fst_head_infer_lam_line_normalize_pair_papp_path_pbeta_pi_plam_reduce_snd_sort_step_turn_turns_universe_var)]
+    #[cycle(typing)]
     pub fn check(
         self,
         left: u32,
@@ -216,7 +216,7 @@ impl State {
     }
 
     // A term of the one type has the other too; refuses (12) where their levels differ.
-    #[cycle(app_atom_beta_check_conv_ctx_equal_expose_find_fst_head_infer_lam_line_normalize_pair_papp_path_pbeta_pi_plam_reduce_snd_sort_step_turn_turns_universe_var)]
+    #[cycle(typing)]
     pub fn conv(
         self,
         left: u32,
@@ -255,7 +255,7 @@ impl State {
     }
 
     // The type of a term, its head exposed, as a conversion, where it is not of the kind wanted, and the row that the term has it.
-    #[cycle(app_atom_beta_check_conv_ctx_equal_expose_find_fst_head_infer_lam_line_normalize_pair_papp_path_pbeta_pi_plam_reduce_snd_sort_step_turn_turns_universe_var)]
+    #[cycle(typing)]
     pub fn head(
         self,
         left: u32,
@@ -285,7 +285,7 @@ impl State {
     }
 
     // The type of a term, and the row that it has it: what is remembered, or found anew.
-    #[cycle(app_atom_beta_check_conv_ctx_equal_expose_find_fst_head_infer_lam_line_normalize_pair_papp_path_pbeta_pi_plam_reduce_snd_sort_step_turn_turns_universe_var)]
+    #[cycle(typing)]
     pub fn infer(
         self,
         left: u32,
@@ -323,7 +323,7 @@ impl State {
     }
 
     // The type of a term, the rows to cite and the rule.
-    #[cycle(app_atom_beta_check_conv_ctx_equal_expose_find_fst_head_infer_lam_line_normalize_pair_papp_path_pbeta_pi_plam_reduce_snd_sort_step_turn_turns_universe_var)]
+    #[cycle(typing)]
     pub fn find(
         self,
         left: u32,
@@ -384,7 +384,7 @@ impl State {
     }
 
     // A universe, nat or zero: the type is a cell of the kind with the number.
-    #[cycle(app_atom_beta_check_conv_ctx_equal_expose_find_fst_head_infer_lam_line_normalize_pair_papp_path_pbeta_pi_plam_reduce_snd_sort_step_turn_turns_universe_var)]
+    #[cycle(typing)]
     pub fn atom(
         self,
         left: u32,
@@ -411,7 +411,7 @@ impl State {
     }
 
     // A variable has the type that the context gives it.
-    #[cycle(app_atom_beta_check_conv_ctx_equal_expose_find_fst_head_infer_lam_line_normalize_pair_papp_path_pbeta_pi_plam_reduce_snd_sort_step_turn_turns_universe_var)]
+    #[cycle(typing)]
     pub fn var(
         self,
         left: u32,
@@ -436,7 +436,7 @@ impl State {
     }
 
     // Two types, the second under a variable of the first, as in a pi or a sigma: this lies in the greater of their universes.
-    #[cycle(app_atom_beta_check_conv_ctx_equal_expose_find_fst_head_infer_lam_line_normalize_pair_papp_path_pbeta_pi_plam_reduce_snd_sort_step_turn_turns_universe_var)]
+    #[cycle(typing)]
     pub fn pi(
         self,
         left: u32,
@@ -476,7 +476,7 @@ impl State {
     }
 
     // A lam has the pi from its annotation to the type of its body.
-    #[cycle(app_atom_beta_check_conv_ctx_equal_expose_find_fst_head_infer_lam_line_normalize_pair_papp_path_pbeta_pi_plam_reduce_snd_sort_step_turn_turns_universe_var)]
+    #[cycle(typing)]
     pub fn lam(
         self,
         left: u32,
@@ -518,7 +518,7 @@ impl State {
     }
 
     // An application has the codomain, with the argument put in.
-    #[cycle(app_atom_beta_check_conv_ctx_equal_expose_find_fst_head_infer_lam_line_normalize_pair_papp_path_pbeta_pi_plam_reduce_snd_sort_step_turn_turns_universe_var)]
+    #[cycle(typing)]
     pub fn app(
         self,
         left: u32,
@@ -552,6 +552,7 @@ impl State {
     }
 
     // Both ends of a term: at i0, and at i1.
+    #[tactic(auto, unfolding(crate::specs::Typing::ends, crate::proofs::Steps::steps))]
     pub fn ends(self, left: u32, rows: &mut [u32], cells: &mut [u32], t: u32) -> Four
         ensures { end_4 result rows.new cells.new ≡ ends (callees left) t (machine rows.old cells.old self) }
     {
@@ -575,7 +576,7 @@ impl State {
     }
 
     // A path type lies in the universe of its family.
-    #[cycle(app_atom_beta_check_conv_ctx_equal_expose_find_fst_head_infer_lam_line_normalize_pair_papp_path_pbeta_pi_plam_reduce_snd_sort_step_turn_turns_universe_var)]
+    #[cycle(typing)]
     pub fn path(
         self,
         left: u32,
@@ -623,7 +624,7 @@ impl State {
     }
 
     // A plam has the path type between the ends of its body.
-    #[cycle(app_atom_beta_check_conv_ctx_equal_expose_find_fst_head_infer_lam_line_normalize_pair_papp_path_pbeta_pi_plam_reduce_snd_sort_step_turn_turns_universe_var)]
+    #[cycle(typing)]
     pub fn plam(
         self,
         left: u32,
@@ -678,7 +679,7 @@ impl State {
     }
 
     // A path that is applied has the family, with the interval put in.
-    #[cycle(app_atom_beta_check_conv_ctx_equal_expose_find_fst_head_infer_lam_line_normalize_pair_papp_path_pbeta_pi_plam_reduce_snd_sort_step_turn_turns_universe_var)]
+    #[cycle(typing)]
     pub fn papp(
         self,
         left: u32,
@@ -716,7 +717,7 @@ impl State {
     }
 
     // A pair has the sigma type that it is annotated with; refuses (22) an annotation that is not written as one.
-    #[cycle(app_atom_beta_check_conv_ctx_equal_expose_find_fst_head_infer_lam_line_normalize_pair_papp_path_pbeta_pi_plam_reduce_snd_sort_step_turn_turns_universe_var)]
+    #[cycle(typing)]
     pub fn pair(
         self,
         left: u32,
@@ -771,7 +772,7 @@ impl State {
     }
 
     // The first projection has the sigma's first type.
-    #[cycle(app_atom_beta_check_conv_ctx_equal_expose_find_fst_head_infer_lam_line_normalize_pair_papp_path_pbeta_pi_plam_reduce_snd_sort_step_turn_turns_universe_var)]
+    #[cycle(typing)]
     pub fn fst(
         self,
         left: u32,
@@ -800,7 +801,7 @@ impl State {
     }
 
     // The second projection has the sigma's second type, with the first projection put in.
-    #[cycle(app_atom_beta_check_conv_ctx_equal_expose_find_fst_head_infer_lam_line_normalize_pair_papp_path_pbeta_pi_plam_reduce_snd_sort_step_turn_turns_universe_var)]
+    #[cycle(typing)]
     pub fn snd(
         self,
         left: u32,

@@ -1,4 +1,6 @@
 // Names, the quotes of cells, and judgments as they are quoted. What is written to is a `Writer` with the buffer that is lent to it.
+#![tactic(auto)]
+
 ghost use Rattle.std.specs.Prelude.{◌≡◌, ◌+◌};
 ghost use Rattle.rules.specs.Names.{name_of};
 ghost use Rattle.writer.specs.Window.{output, written};

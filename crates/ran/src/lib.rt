@@ -1,5 +1,7 @@
 // What a run answers of itself: the number and the place of its refusal, and how many calls, rows and cells it has. `run` gives it, and
 // the listing in `text` is of it: so neither needs the other.
+#![tactic(auto)]
+
 #[derive(Drop)]
 pub struct Ran {
     pub number: u32,

@@ -1,5 +1,7 @@
 // Plays the stored runs of standard input, and compares what each leaves with what the Rust left: the listing's text, byte by byte,
 // and that no word past the used ones changed. How a stored run is laid out: tools/compare/src/vectors.rs.
+#![tactic(auto)]
+
 ghost use Rattle.std.specs.Prelude.{◌<◌};
 
 use libc::STDOUT_FILENO;

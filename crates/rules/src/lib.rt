@@ -1,5 +1,7 @@
 // The constant tables of a listing: names of rules, judgments and nodes, what each rule concludes and what each takes.
 // A number past a table's end has an empty name and takes nothing.
+#![tactic(auto)]
+
 mod tables;
 
 ghost use Rattle.std.specs.Prelude.{◌≡◌, length, get_or};

@@ -1,4 +1,6 @@
 // Shows what the reader says of runs on each side of its edges.
+#![tactic(auto)]
+
 use libc::STDOUT_FILENO;
 use syntax::{Scanned, Size};
 

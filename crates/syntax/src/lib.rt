@@ -1,4 +1,6 @@
 // The reader of a run's bytes: whether they are a run, and the limits of its calls.
+#![tactic(auto)]
+
 pub mod calls;
 pub mod codes;
 pub mod cursor;

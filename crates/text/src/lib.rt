@@ -1,4 +1,6 @@
 // The listing of a run, from what it answers and leaves in the slices, and each of its parts: shown through a window into a lent buffer.
+#![tactic(auto)]
+
 ghost use Rattle.std.specs.Prelude.{◌≡◌, ◌≤◌, length, take};
 ghost use Rattle.writer.specs.Text.{each};
 ghost use Rattle.writer.specs.Window.{output, written, Shown};

@@ -1,5 +1,7 @@
 // Prints texts through a window of seven bytes: the specification's worked example, a run that is refused, and a store with a cell
 // of every kind, whole and piece by piece; then how much is left of a short text and of one that nobody could print.
+#![tactic(auto)]
+
 use libc::STDOUT_FILENO;
 use ran::Ran;
 use text::Piece;

@@ -1,4 +1,6 @@
 // Writes bytes and numbers through a window into a lent buffer.
+#![tactic(auto)]
+
 ghost use Rattle.std.specs.Prelude.{◌≡◌};
 ghost use Rattle.writer.specs.Text.{digit, decimal};
 ghost use Rattle.writer.specs.Window.{output, writer, put, ended, written};

@@ -118,6 +118,7 @@ found j (r ∷ rs) n e = go (judgment? j r.judgment) (found j rs n) e
 
 pub not_found : (j : Judgment) (rs : List Row) → row_of j rs ≡ none → (n : ℕ) → At n j rs → ⊥
 unfolding row_of
+not_found j [] e n h = elim h [ ]
 not_found j (r ∷ rs) e n h = go (judgment? j r.judgment) (λ q. not_found j rs q n) e h
   where
     go : (d : Dec (j ≡ r.judgment)) → (row_of j rs ≡ none → At n j rs → ⊥) → ◌≡◌ {A = Option ℕ} (elim d as (λ _. Option ℕ) [ yes e ↦ some (length rs) | no ne ↦ row_of j rs ]) none → At n j (r ∷ rs) → ⊥
