@@ -12,10 +12,11 @@ use lib.Seq.{sets}
 use Rattle.walk.specs.Reader.{Read, got, bad, Call, read_run}
 use Rattle.syntax.specs.Told.{code_number, call_at, next_of, next_in, told, unless_long, scanned}
 use Rattle.syntax.specs.Kinds.{code_is}
-use Rattle.syntax.specs.Calls.{CallsAt, FirstCall, first_call, last_call, run_is}
+use Rattle.syntax.specs.Calls.{CallsAt, FirstCall, first_call, run_is}
 use Rattle.syntax.specs.Codes.{codes_of, codes_in, unless_over, call_codes, Readable}
 use Rattle.syntax.specs.declared.scan.Next.{Next}
 use Rattle.syntax.specs.declared.scan.Next.TheVariants.{Past}
+use Rattle.syntax.specs.declared.scan.Scanned.{Scanned}
 use Rattle.syntax.specs.declared.scan.Scanned.TheVariants.{Calls, Refused}
 use Rattle.syntax.proofs.Runs.{past_call}
 
@@ -43,11 +44,6 @@ unfolding next_in next_of
 no_fault true bytes whole codes at i l h f r never e = let z : ◌≡◌ {A = ℕ} 0 1 = cc in omega arith
 no_fault false bytes whole codes at i l h f r never e = never _ (e ∙ ap next_of (first_call l.there h).here.reads)
 
-pub done : (bytes whole codes : List ℕ) (at i : ℕ) → Left bytes whole codes at i → length bytes ≤ at → codes ≡ whole
-done bytes whole codes at i l h =
-    let none_left : codes_of l.calls ≡ [] = ap codes_of (last_call l.there h) in
-    sym (l.same ∙ rw none_left)
-
 -- What a scan that found calls says of the run, and what one that was refused says.
 pub readable : (bytes : List ℕ) (limit n : ℕ) → Calls limit n ≡ scanned bytes → Readable bytes
 readable bytes limit n e = long (ltb 65536 (length bytes)) refl e
@@ -71,3 +67,8 @@ unreadable bytes number place e = long (ltb 65536 (length bytes)) e
     long : (t : Bool) → Refused number place ≡ unless_long t (told (read_run bytes)) → unless_over t (codes_in (read_run bytes)) ≡ []
     long true e = refl
     long false e = read (read_run bytes) (unfold unless_long in e)
+
+-- An answer that is not the first variant is a refusal.
+pub not_read : (bytes : List ℕ) (r : Scanned) → ((limit n : ℕ) → r ≡ Calls limit n → ⊥) → r ≡ scanned bytes → call_codes bytes ≡ []
+not_read bytes (Calls limit n) never e = absurd (never limit n refl)
+not_read bytes (Refused number place) never e = unreadable bytes number place e

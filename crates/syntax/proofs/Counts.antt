@@ -1,14 +1,11 @@
 -- The loop over the terms of a call, with their sizes.
 use Prim.Native.Nat.{ℕ, zero, suc, ◌+◌, ◌*◌, ◌-◌, ◌≤◌, ◌<◌}
 use mathlib.Core.Path.{◌≡◌, refl, ap, ◌∙◌}
-use mathlib.Core.List.{List, [], ◌∷◌, ◌++◌}
-use mathlib.Core.Logic.{⊎_elim}
+use mathlib.Core.List.{List, ◌∷◌, ◌++◌}
 use mathlib.Core.Bool.{Bool, true, false, ◌||◌}
 use native.Mathlib.Omega.{arith}
 use native.Mathlib.Numerals.{sub-one}
 use borrow.Author.Tests.{lt-ltb, le-ltb}
-use types.Run.{OneOf}
-use denote.Enum.Declared.{tag_of}
 use lib.Dec.{ltb}
 use lib.ListN.{length, drop}
 use Rattle.walk.specs.Refusal as Refusal
@@ -25,15 +22,8 @@ use Rattle.syntax.specs.declared.scan.Next.{Next}
 use Rattle.syntax.specs.declared.limits.Counted.{Counted}
 use Rattle.syntax.specs.declared.limits.Counted.TheVariants.{Nodes, Refused, Bad}
 use Rattle.syntax.specs.declared.limits.Size.TheVariants.{Fits, Refused as RefusedCall, Bad as NoCall}
-use Rattle.syntax.specs.contracts.limits.Counted.{the_type}
 use Rattle.syntax.proofs.Terms.{call_of, terms_after, T, call_here, terms_here}
 use Rattle.syntax.specs.declared.scan.Heading.TheVariants.{Is, Bad as NoHead}
-
--- An answer that is not the first variant.
-pub not_nodes : (r : Counted) → OneOf (1 ∷ 2 ∷ []) (tag_of the_type r) → (n p : ℕ) → r ≡ Nodes n p → ⊥
-not_nodes (Nodes m q) k n p e = ⊎_elim (λ z. omega arith) (λ z. omega arith) k
-not_nodes (Refused m) k n p e = let z : ◌≡◌ {A = ℕ} 0 1 = cc in omega arith
-not_nodes (Bad m) k n p e = let z : ◌≡◌ {A = ℕ} 0 1 = cc in omega arith
 
 -- The answer tells the size.
 nodes_tell : (s : Sized) (n p end : ℕ) → Nodes n p ≡ counted s end → (s ≡ fits n) × (p ≡ end)

@@ -3,10 +3,10 @@ use Prim.Native.Nat.{ℕ, zero, suc, ◌+◌, ◌*◌, ◌-◌, ◌/◌, ◌%◌
 use mathlib.Core.Path.{◌≡◌, refl, sym, ap, ap₂, ◌∙◌}
 use mathlib.Core.List.{List, [], ◌∷◌, ◌++◌}
 use mathlib.Core.Option.{Option, some}
-use mathlib.Core.Bool.{Bool, true, false, ◌||◌}
+use mathlib.Core.Bool.{true, false, ◌||◌}
 use native.Mathlib.Omega.{arith}
 use native.Mathlib.Numerals.{add-one}
-use borrow.Author.Tests.{lt-ltb, le-ltb, ltb-false, leb-false}
+use borrow.Author.Tests.{lt-ltb, le-ltb}
 use lib.Dec.{ltb, leb}
 use lib.ListN.{length, get_or, drop, drop_of_length-le}
 use lib.Seq.{drop-cons}
@@ -82,11 +82,3 @@ module _ (bytes words : List ℕ) (nodes at d : ℕ) (h : 0 < d) where
             let u = up_to_three p.n (part p.low) (part p.mid) (part p.top) k in
             let many : so_many p.n (means (p.low + 3 * (depth + 1))) (means (p.mid + 3 * (depth + 1))) (means (p.top + 3 * (depth + 1))) ≡ some (all_at (depth + 1) u.0) = rw (means_deeper p.low (depth + 1) e.low, means_deeper p.mid (depth + 1) e.mid, means_deeper p.top (depth + 1) e.top) (deeper_many p.n _ _ _ (depth + 1) u.0 u.1) in
             rw (piled_push means words (d - 1) (deeper p (depth + 1)) (all_at (depth + 1) u.0) r many) (turn ∙ enter_node _ _ _ _ _ _ z ∙ rw (t, sym e.same ∙ u.1, add-one at))
-
--- the tests of a node's own limits
-pub depth_fits : (depth nodes : ℕ) → (ltb 32 depth || leb 10000 nodes) ≡ false → (depth ≤ 32) × (nodes < 10000)
-depth_fits depth nodes e = go (ltb 32 depth) refl e
-  where
-    go : (t : Bool) → ltb 32 depth ≡ t → (t || leb 10000 nodes) ≡ false → (depth ≤ 32) × (nodes < 10000)
-    go true p e = absurd (let z : ◌≡◌ {A = ℕ} 0 1 = cc in omega arith)
-    go false p e = (ltb-false 32 depth p, leb-false 10000 nodes e)

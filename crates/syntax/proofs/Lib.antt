@@ -1,5 +1,4 @@
 -- What the proofs of several functions use.
-mod Tables
 mod Over
 mod Stack
 mod Terms

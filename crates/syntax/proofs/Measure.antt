@@ -162,7 +162,7 @@ sizes_interval ℕ.zero depth = nothing
 sizes_interval (ℕ.suc f) depth =
     let number : Sizes (own depth) (deep index (depth + 1) ∷ []) (λ l n. size_on (own depth n) (indexed l)) byte = after_size (own depth) (sizes_index (depth + 1)) in
     let part : (before : ℕ → Sized) → Sizes before (deep interval (depth + 1) ∷ []) (λ a n. size_on (before n) (size_interval a (depth + 1))) (read_interval f) = λ before. after_size before (sizes_interval f (depth + 1)) in
-    sizes_node ikinds iparts interval depth (λ b n at g. refl) (λ k. elim k [
+    sizes_node ikinds iparts interval depth (λ b n at g. refl) (elim [
       -- written by tools/written.py: kinds of an interval
       | k_0 ↦ done I0 (λ n. refl)
       | k_1 ↦ done I1 (λ n. refl)
@@ -179,7 +179,7 @@ sizes_term ℕ.zero depth = nothing
 sizes_term (ℕ.suc f) depth =
     let number : Sizes (own depth) (deep index (depth + 1) ∷ []) (λ l n. size_on (own depth n) (indexed l)) byte = after_size (own depth) (sizes_index (depth + 1)) in
     let part : (before : ℕ → Sized) → Sizes before (deep term (depth + 1) ∷ []) (λ a n. size_on (before n) (size_term a (depth + 1))) (read_term f) = λ before. after_size before (sizes_term f (depth + 1)) in
-    sizes_node kinds parts term depth (λ b n at g. refl) (λ k. elim k [
+    sizes_node kinds parts term depth (λ b n at g. refl) (elim [
       -- written by tools/written.py: kinds of a term
       | k_u ↦ then number (λ l. done (Universe l) (λ n. node_index depth n l))
       | k_v ↦ then number (λ l. done (Var l) (λ n. node_index depth n l))

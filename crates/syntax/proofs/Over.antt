@@ -91,7 +91,7 @@ nothing {A} p = record { on = go }
 an_interval : (f : ℕ) → Reads f (interval ∷ []) (read_interval f)
 unfolding read_interval after
 an_interval ℕ.zero = nothing interval
-an_interval (ℕ.suc f) = node ikinds iparts interval (λ b. refl) (λ k. elim k [
+an_interval (ℕ.suc f) = node ikinds iparts interval (λ b. refl) (elim [
   -- written by tools/written.py: kinds of an interval
   | k_0 ↦ done _
   | k_1 ↦ done _
@@ -105,7 +105,7 @@ an_interval (ℕ.suc f) = node ikinds iparts interval (λ b. refl) (λ k. elim k
 a_term : (f : ℕ) → Reads f (term ∷ []) (read_term f)
 unfolding read_term after
 a_term ℕ.zero = nothing term
-a_term (ℕ.suc f) = node kinds parts term (λ b. refl) (λ k. elim k [
+a_term (ℕ.suc f) = node kinds parts term (λ b. refl) (elim [
   -- written by tools/written.py: kinds of a term
   | k_u ↦ then an_index (λ n. done _)
   | k_v ↦ then an_index (λ n. done _)

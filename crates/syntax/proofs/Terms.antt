@@ -1,15 +1,12 @@
 -- The loop over the terms of a call, and the call's head before it.
 use Prim.Native.Nat.{ℕ, zero, suc, ◌+◌, ◌-◌, ◌≤◌, ◌<◌}
 use mathlib.Core.Path.{◌≡◌, refl, sym, ap, ◌∙◌}
-use mathlib.Core.List.{List, [], ◌∷◌, ◌++◌}
+use mathlib.Core.List.{List, ◌∷◌, ◌++◌}
 use mathlib.Core.Bool.{Bool, true, false}
 use native.Mathlib.Omega.{arith}
 use native.Mathlib.Nat.{zero-add, suc-add}
 use native.Mathlib.Numerals.{sub-one}
 use lib.ListN.{length, drop}
-use mathlib.Core.Logic.{⊎_elim}
-use types.Run.{OneOf}
-use denote.Enum.Declared.{tag_of}
 use Rattle.walk.specs.Syntax.{Term}
 use Rattle.walk.specs.Reader.{Read, got, bad, read_on, ◌>>=◌, ok, terms_of, Head, Call, read_term, read_terms, read_head, read_call}
 use Rattle.syntax.specs.Told.{term_at, terms_at, call_at, next_of, next_in, head_of, HeadAt, many_terms}
@@ -18,14 +15,7 @@ use Rattle.syntax.specs.declared.scan.CallHead.{CallHead}
 use Rattle.syntax.specs.declared.scan.Heading.TheVariants.{Bad as HeadingBad}
 use Rattle.syntax.specs.Ends.{ends, goes_term}
 use Rattle.syntax.specs.declared.scan.Next.{Next}
-use Rattle.syntax.specs.declared.scan.Next.TheVariants.{Past, Bad, Short}
-use Rattle.syntax.specs.contracts.scan.Next.{the_type}
-
--- An answer that is not the first variant.
-pub not_past : (r : Next) → OneOf (1 ∷ 2 ∷ []) (tag_of the_type r) → (p : ℕ) → r ≡ Past p → ⊥
-not_past (Past q) k p e = ⊎_elim (λ z. omega arith) (λ z. omega arith) k
-not_past (Bad q) k p e = let z : ◌≡◌ {A = ℕ} 0 1 = cc in omega arith
-not_past Short k p e = let z : ◌≡◌ {A = ℕ} 0 1 = cc in omega arith
+use Rattle.syntax.specs.declared.scan.Next.TheVariants.{Past, Bad}
 
 -- What an end tells of what was read.
 pub past : {A : Type 0} (t : Bool) (r : Read A) (p : ℕ) → Past p ≡ next_in t r → (a : A) × (rest : List ℕ) × (r ≡ got a rest p)

@@ -79,7 +79,7 @@ goes_nothing = record { on = λ bytes at. λ h. h }
 pub goes_interval : (f : ℕ) → Goes 1 (read_interval f)
 unfolding read_interval
 goes_interval ℕ.zero = goes_nothing
-goes_interval (ℕ.suc f) = goes_then {k = 0} (goes_one ikinds) (λ k. elim k [
+goes_interval (ℕ.suc f) = goes_then {k = 0} (goes_one ikinds) (elim [
   -- written by tools/written.py: kinds of an interval
   | k_0 ↦ goes_ok _
   | k_1 ↦ goes_ok _
@@ -93,7 +93,7 @@ goes_interval (ℕ.suc f) = goes_then {k = 0} (goes_one ikinds) (λ k. elim k [
 pub goes_term : (f : ℕ) → Goes 1 (read_term f)
 unfolding read_term
 goes_term ℕ.zero = goes_nothing
-goes_term (ℕ.suc f) = goes_then {k = 0} (goes_one kinds) (λ k. elim k [
+goes_term (ℕ.suc f) = goes_then {k = 0} (goes_one kinds) (elim [
   -- written by tools/written.py: kinds of a term
   | k_u ↦ goes_part goes_byte (λ n. goes_ok _)
   | k_v ↦ goes_part goes_byte (λ n. goes_ok _)

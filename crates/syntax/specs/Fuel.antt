@@ -85,7 +85,7 @@ keeps_interval f zero = record { on = λ bs at e h. absurd h }
 keeps_interval zero (suc g) = record { on = λ bs at e h. absurd (let z : ◌≡◌ {A = ℕ} 0 1 = cc in omega arith) }
 keeps_interval (suc f) (suc g) =
     let part : Keeps (IHeight g) (read_interval f) (read_interval g) = keeps_interval f g in
-    keeps_on (one_of ikinds) (λ k. elim k [
+    keeps_on (one_of ikinds) (elim [
       -- written by tools/written.py: kinds of an interval
       | k_0 ↦ keeps_ok _
       | k_1 ↦ keeps_ok _
@@ -102,7 +102,7 @@ keeps_term f zero = record { on = λ bs at e h. absurd h }
 keeps_term zero (suc g) = record { on = λ bs at e h. absurd (let z : ◌≡◌ {A = ℕ} 0 1 = cc in omega arith) }
 keeps_term (suc f) (suc g) =
     let part : Keeps (Height g) (read_term f) (read_term g) = keeps_term f g in
-    keeps_on (one_of kinds) (λ k. elim k [
+    keeps_on (one_of kinds) (elim [
       -- written by tools/written.py: kinds of a term
       | k_u ↦ keeps_on byte (λ n. keeps_ok _)
       | k_v ↦ keeps_on byte (λ n. keeps_ok _)

@@ -113,6 +113,7 @@ fn count_call(s: &[u8], from: usize, head: CallHead, stack: &mut [u8]) -> Counte
 }
 
 // A refused call, told with the offset past it.
+#[tactic(auto, unfolding(crate::specs::Parts::refused_size))]
 fn refused(number: u32, next: Next) -> Size
     ensures { result ≡ refused_size number next }
 {

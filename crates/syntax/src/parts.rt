@@ -75,6 +75,7 @@ fn refused() -> Parts
     }
 }
 
+#[tactic(auto, unfolding(crate::specs::Parts::so_many, crate::specs::Parts::part, crate::specs::Parts::of_kind))]
 fn of_term(kind: u8) -> Parts
     ensures { Lists (of_kind term-parts (get_or kinds kind nothing)) result }
 {
@@ -99,6 +100,7 @@ fn of_term(kind: u8) -> Parts
     }
 }
 
+#[tactic(auto, unfolding(crate::specs::Parts::so_many, crate::specs::Parts::part, crate::specs::Parts::of_kind))]
 fn of_interval(kind: u8) -> Parts
     ensures { Lists (of_kind iparts (get_or ikinds kind nothing)) result }
 {
@@ -116,6 +118,7 @@ fn of_interval(kind: u8) -> Parts
 }
 
 // What byte b leaves to be read where this part is due.
+#[tactic(auto, unfolding(crate::specs::Parts::so_many, crate::specs::Parts::part, crate::specs::Parts::after))]
 pub(crate) fn parts_after(part: u8, b: u8) -> Parts
     ensures { Lists (after (part_of part) b) result }
 {

@@ -19,7 +19,7 @@ pub enum Next {
 }
 
 // A call's first three bytes: its code, its dimension count and the length of its context.
-#[derive(Drop)]
+#[derive(Clone, Copy)]
 pub struct CallHead {
     pub code: u8,
     pub dims: u8,
@@ -100,6 +100,7 @@ pub(crate) fn skip_terms(s: &[u8], from: usize, count: usize, stack: &mut [u8]) 
 }
 
 // How many terms follow the context of a call with this code.
+#[tactic(auto, unfolding(crate::specs::Told::terms_in))]
 pub fn terms_of(code: u8) -> usize
     ensures { result ≡ terms_in (get_or codes code none) }
 {
