@@ -5,6 +5,7 @@ ghost use Rattle.lines.specs.Repeats.{is_call, repeat, repeats};
 use crate::calls::{answer_word, code_of};
 
 // Whether the call `j` is accepted, with the code and the row.
+#[tactic(auto, unfolding(crate::specs::Repeats::is_call, crate::specs::Repeats::same))]
 fn same_call(codes: &[u8], answers: &[u32], j: u32, code: u8, row: u32) -> bool
     ensures { result ≡ is_call codes.now answers.now j code row }
 {

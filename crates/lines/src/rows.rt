@@ -45,6 +45,7 @@ pub fn refs(writer: Writer, rows: &[u32], i: u32, buf: &mut [u8]) -> Writer
 }
 
 // A cited row after the first, with a comma before it.
+#[tactic(auto, using(writer::proofs::Laws::writing))]
 fn reference(writer: Writer, rows: &[u32], i: u32, k: u32, buf: &mut [u8]) -> Writer
     ensures { output result buf.new ≡ written (reference rows.now i k) (output writer buf.old) }
 {
@@ -70,6 +71,7 @@ pub fn judgment(writer: Writer, rows: &[u32], cells: &[u32], i: u32, buf: &mut [
 }
 
 // A row's line: its number, its rule by name, the rows that it cites, and its judgment.
+#[tactic(auto, using(writer::proofs::Laws::writing), unfolding(crate::specs::Rows::row_line))]
 pub fn line(writer: Writer, rows: &[u32], cells: &[u32], i: u32, buf: &mut [u8]) -> Writer
     ensures { output result buf.new ≡ written (row_line rows.now cells.now i) (output writer buf.old) }
 {
@@ -80,6 +82,7 @@ pub fn line(writer: Writer, rows: &[u32], cells: &[u32], i: u32, buf: &mut [u8])
     d.put(10, buf)
 }
 
+#[tactic(auto, using(writer::proofs::Laws::writing), unfolding(crate::specs::Rows::row_head))]
 fn head(writer: Writer, rows: &[u32], i: u32, buf: &mut [u8]) -> Writer
     ensures { output result buf.new ≡ written (row_head rows.now i) (output writer buf.old) }
 {

@@ -104,6 +104,7 @@ fn argument(
 }
 
 // The judgment of a kind, with the arguments of the row `i`.
+#[tactic(auto, using(writer::proofs::Laws::writing), unfolding(crate::specs::Judgments::judgment_as))]
 pub fn judgment(
     writer: Writer,
     rows: &[u32],

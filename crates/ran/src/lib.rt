@@ -2,7 +2,7 @@
 // the listing in `text` is of it: so neither needs the other.
 #![tactic(auto)]
 
-#[derive(Drop)]
+#[derive(Clone, Copy)]
 pub struct Ran {
     pub number: u32,
     pub place: u32,

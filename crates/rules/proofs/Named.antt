@@ -1,6 +1,6 @@
 -- Names of at most 16 bytes: where a byte of one stands in a table that has 16 for each, filled up with _ (95).
 -- Past the last name they are empty. Assumes nothing.
-use mathlib.Core.Path.{◌≡◌, refl, ap, ◌∙◌, sym}
+use mathlib.Core.Path.{◌≡◌, refl, ap, ◌∙◌}
 use mathlib.Core.List.{List, [], ◌∷◌}
 use Prim.Native.Nat.{ℕ, zero, suc, ◌+◌, ◌*◌, ◌<◌, ◌≤◌}
 use native.Mathlib.Nat.{le_of_suc-le-suc, not-suc-le-zero}
@@ -8,7 +8,7 @@ use native.Mathlib.Decide.{dec_lt}
 use native.Mathlib.Omega.{arith}
 use lib.Dec.{T, leb}
 use lib.Arith.{digits_lt}
-use lib.ListN.{length, get_or, get_or-eq_default}
+use lib.ListN.{length, get_or}
 use Rattle.rules.proofs.Table.{listed, by_rows, at_row, all, at_most}
 
 -- What stands in the table at a place of a name.
@@ -44,6 +44,3 @@ module _ (name : ℕ → List ℕ) (count : ℕ) (test : T (all (λ n. leb (leng
   byte_in n k h =
       let w : Within count n k = within n k h in
       at_row count 16 (filled name) n k w.name w.place ∙ in_range (name n) k 95 0 h
-
-pub byte_past : (l : List ℕ) (k : ℕ) → length l ≤ k → 0 ≡ get_or l k 0
-byte_past l k h = sym (get_or-eq_default l 0 h)

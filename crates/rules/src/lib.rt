@@ -10,7 +10,7 @@ ghost use Rattle.walk.specs.Rule.{kind_of};
 ghost use Rattle.rules.specs.Kinds.{sorts_of, sort_of, part_of};
 
 // What has a name: a rule, a judgment by its kind, a node of a term, an interval or a context by its kind.
-#[derive(Drop)]
+#[derive(Clone, Copy)]
 pub enum Name {
     Rule(u32),
     Judgment(u32),

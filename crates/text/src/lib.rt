@@ -13,7 +13,7 @@ use ran::Ran;
 use writer::Writer;
 
 // A text that can be asked for.
-#[derive(Drop)]
+#[derive(Clone, Copy)]
 pub enum Piece {
     Listing,
     CallLine(u32),
@@ -26,13 +26,14 @@ pub enum Piece {
 }
 
 // What a window shows of a text: how many bytes it put, and how many are left after them, counted as far as was asked.
-#[derive(Drop)]
+#[derive(Clone, Copy)]
 pub struct View {
     pub put: usize,
     pub left: usize,
 }
 
 // The totals' line.
+#[tactic(auto, using(writer::proofs::Laws::writing), unfolding(crate::specs::Listing::totals))]
 fn totals(writer: Writer, run: Ran, codes: &[u8], answers: &[u32], buf: &mut [u8]) -> Writer
     ensures { output result buf.new ≡ written (totals run codes.now answers.now) (output writer buf.old) }
 {
@@ -46,6 +47,7 @@ fn totals(writer: Writer, run: Ran, codes: &[u8], answers: &[u32], buf: &mut [u8
 }
 
 // The lines of all calls, and of all rows.
+#[tactic(auto, using(writer::proofs::Laws::written_turn, writer::proofs::Laws::written_end))]
 fn call_lines(
     mut writer: Writer,
     codes: &[u8],
@@ -64,6 +66,7 @@ fn call_lines(
     writer
 }
 
+#[tactic(auto, using(writer::proofs::Laws::written_turn, writer::proofs::Laws::written_end))]
 fn row_lines(mut writer: Writer, rows: &[u32], cells: &[u32], n: u32, buf: &mut [u8]) -> Writer
     ensures { output result buf.new ≡ written (each (row_line rows.now cells.now) 0 n) (output writer buf.old) }
 {
@@ -110,6 +113,7 @@ fn listing(
 }
 
 // A text that was asked for.
+#[tactic(auto, unfolding(crate::specs::Listing::piece))]
 fn write_piece(
     writer: Writer,
     what: Piece,

@@ -28,6 +28,9 @@ unfolding written
 written_append [] t o = refl
 written_append (b ∷ s) t o = written_append s t (put b o)
 
+-- By these a text that is written piece by piece is the whole, written at once.
+pub ruleset writing = (written_nil, written_cons, written_append)
+
 both : {a b : Bool} → (a && b) ≡ true → (a ≡ true) × (b ≡ true)
 both {a} {b} h = (and-eq-true_iff a b).0 h
 

@@ -7,7 +7,7 @@ ghost use Rattle.writer.specs.Window.{output, writer, put, ended, written};
 
 // Writes into a buffer that is lent at each call: how many bytes are still to be skipped, how many of the buffer are filled, and how
 // many did not fit, which are counted up to `most`.
-#[derive(Drop)]
+#[derive(Clone, Copy)]
 pub struct Writer {
     pub skip: usize,
     pub filled: usize,
@@ -36,6 +36,7 @@ impl Writer {
     }
 
     // One byte.
+    #[tactic(auto, unfolding(crate::specs::Window::put))]
     pub fn put(mut self, b: u8, buf: &mut [u8]) -> Writer
         ensures { output result buf.new ≡ put b (output self buf.old) }
     {
@@ -56,6 +57,7 @@ impl Writer {
     }
 
     // Whether no byte changes anything any more.
+    #[tactic(auto, unfolding(crate::specs::Window::ended))]
     pub fn ended(self, buf: &[u8]) -> bool
         ensures { result ≡ ended (output self buf.now) }
     {
