@@ -1,7 +1,6 @@
 -- A cell read back as a term, annotations and all: the term that it stands for.
-use Rattle.std.specs.Prelude.{ℕ, ◌<◌, ◌≡◌, length, get_or}
+use Rattle.std.specs.Prelude.{ℕ, ◌<◌, ◌≡◌, get_or, List}
 use Rattle.std.proofs.Math.Path.{refl}
-use mathlib.Core.List.{List}
 use Rattle.std.proofs.Math.Option.{Option, none, some}
 use Rattle.std.proofs.Common.{arith}
 use Rattle.walk.specs.Syntax.{Interval, Term, Universe, Var, Nat, Zero, Pi, Lam, App, Path, PathLam, PathApp, Sigma, Pair, Fst, Snd}
@@ -10,7 +9,7 @@ use Rattle.walk.specs.State.{State, Thing, term, interval}
 use Rattle.producer.specs.Machine.{Machine}
 use Rattle.link.specs.Lists.{Nth, nth_below}
 use Rattle.link.specs.Things.{Cell, cell_nth}
-use Rattle.link.specs.Tables.{Shape, s_universe, s_var, s_nat, s_zero, s_pi, s_lam, s_app, s_path, s_plam, s_papp, s_sigma, s_pair, s_fst, s_snd, s_i0, s_i1, s_dim, s_neg, s_meet, s_join, s_nil, s_cons}
+use Rattle.link.specs.Tables.{Shape, s_universe, s_var, s_nat, s_zero, s_pi, s_lam, s_app, s_path, s_plam, s_papp, s_sigma, s_pair, s_fst, s_snd}
 use Rattle.link.specs.Holds.{Before, Holds}
 use Rattle.link.specs.Table.{◌>>=◌, kind_word, part, lower, interval_at, CellsWords}
 use Rattle.link.specs.Back.{lowered, cells_told, inner, part_at}

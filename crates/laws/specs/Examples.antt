@@ -115,7 +115,7 @@ b_not_in_a : subst 0 Zero (subst 0 (Var 0) (Var 0)) ≡ subst 0 (Var 0) (subst 1
 unfolding opened
 b_not_in_a e = let z : ◌≡◌ {A = ℕ} 0 1 = cc in omega arith
 
--- for the place 0 of the first substitution any i up to k will do (`subst-subst` of Substs), and none above k
+-- for the place 0 of the first substitution any i up to k will do (`subst_subst` of Substs), and none above k
 not_above : subst 0 Zero (subst 1 Nat (Var 0)) ≡ subst 1 (subst 0 Zero Nat) (subst 1 (shift 1 Zero) (Var 0)) → ⊥
 unfolding opened
 not_above e = let z : ◌≡◌ {A = ℕ} 0 1 = cc in omega arith

@@ -1,9 +1,7 @@
 -- What a shift at k and a substitution at k make of an index n, of a variable or of a dimension.
-use Prim.Native.Nat.{ℕ, suc, ◌-◌, ◌≤◌, ◌<◌}
-use Rattle.std.specs.Prelude.{◌≡◌, refl}
-use Rattle.std.proofs.Common.{ap}
+use Rattle.std.specs.Prelude.{ℕ, suc, ◌-◌, ◌≤◌, ◌<◌, ◌≡◌, refl}
+use Rattle.std.proofs.Common.{ap, arith}
 use Rattle.std.proofs.Math.Decide.{ℕ_discrete, dec_lt}
-use native.Mathlib.Omega.{arith}
 
 infix 10 if◌then◌else◌
 unfoldable pub if◌then◌else◌ : {P A : Type 0} → Dec P → A → A → A

@@ -1,7 +1,7 @@
 -- Inside a run: each call of `transform` or `itransform` that a run makes, and that is not refused, gives a cell that reads back as what
 -- the function of Transforms makes of what its arguments read back as. It is said by a check: calls are played with functions that, after
 -- each such call, read the words back, compare, and stop the call with the number N where they differ; and each call of the run answers as
--- it does without checks, whatever N is: `run-checked`. So no check ever fails.
+-- it does without checks, whatever N is: `run_checked`. So no check ever fails.
 use Rattle.std.specs.Prelude.{ℕ, suc, ◌≡◌, refl, List, ◌∷◌, ◌++◌, Bool, false, length}
 use Rattle.std.proofs.Common.{sym, subst, ap, ◌∙◌, arith}
 use Rattle.std.proofs.Math.Option.{Option, none, some}
@@ -105,7 +105,7 @@ unfoldable pub checking : ℕ → ℕ → Callees
 checking N ℕ.zero = with_checks N P.none_left
 checking N (ℕ.suc n) = with_checks N (P.entered n (checking N n))
 
--- a call of a run that is let in, over such functions: over `callees` it is what `ask-sized` of `link` asks
+-- a call of a run that is let in, over such functions: over `callees` it is what `ask_sized` of `link` asks
 unfoldable pub asked_by : (ℕ → Callees) → Call → Machine → Said × Machine
 asked_by c call w = ask (c w.state.limit) call.code call.dims (scope_of Nil call.types) call.terms (afresh w)
 

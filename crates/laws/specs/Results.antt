@@ -1,8 +1,7 @@
 -- The walk's `transform`, `itransform` and `under`, where they are not refused, give what the functions of Transforms give: `results`.
--- So does the guarded walk (`guarded-results`), and it is the walk while every number is far from the guard (`exact-results`). One proof:
+-- So does the guarded walk (`guarded_results`), and it is the walk while every number is far from the guard (`exact_results`). One proof:
 -- over any way to make the next number, one line for each line of the body that it is about.
-use Prim.Native.Nat.{ℕ, suc, ◌+◌, ◌≤◌, ◌<◌, max}
-use Rattle.std.specs.Prelude.{◌≡◌, List, Bool}
+use Rattle.std.specs.Prelude.{ℕ, suc, ◌+◌, ◌≤◌, ◌<◌, max, ◌≡◌, List, Bool}
 use Rattle.std.proofs.Math.Path.{refl}
 use Rattle.std.proofs.Math.Bool.{true, false}
 use Rattle.std.proofs.Math.Decide.{ℕ_discrete, dec_lt, dec_le}

@@ -11,16 +11,15 @@ use Rattle.producer.specs.Machine.{Machine, is}
 use Rattle.producer.specs.Calls.{callees}
 use Rattle.walk.specs.Syntax.{Interval, Term}
 use Rattle.walk.specs.State.{State, Thing, term, interval}
-use Rattle.walk.specs.Walk.Reference.{Op, Shift, Subst, DShift, DSubst, IOp, IShift, ISubst}
+use Rattle.walk.specs.Walk.Reference.{Op, IOp}
 use Rattle.walk.specs.Reader.{Call}
 use Rattle.walk.specs.Run.{run}
 use Rattle.order.specs.Numbers.{interval_top, term_top}
 use Rattle.order.specs.Guarded.{word}
-use Rattle.link.specs.Lists.{Extends, same, extends_trans}
+use Rattle.link.specs.Lists.{Extends, extends_trans}
 use Rattle.link.specs.Things.{Cell, cell_lift, cell_number}
 use Rattle.link.specs.Holds.{Before, Holds}
 use Rattle.link.specs.Linked.{Ops, o_shift, o_subst, o_dshift, o_dsubst, IOps, i_shift, i_subst}
-use Rattle.link.specs.Asked.{ask_all, start}
 use Rattle.laws.specs.Transforms.{itransform, transform}
 use Rattle.laws.specs.Tops.{call_top, icall_top}
 use Rattle.laws.specs.Substs as S

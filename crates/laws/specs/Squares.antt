@@ -50,13 +50,13 @@ module _ {R : Op → Op → Type 0} (C : Cancels R) where
   cancel h (Var n) = C.var h n
   cancel h Nat = refl
   cancel h Zero = refl
-  cancel h (Pi a b) = cc (cancel h a, cancel (C.binder h false) b)
-  cancel h (Lam a b) = cc (cancel h a, cancel (C.binder h false) b)
+  cancel {p = p} h (Pi a b) = cc (cancel h a, cancel {p = under p false} (C.binder h false) b)
+  cancel {p = p} h (Lam a b) = cc (cancel h a, cancel {p = under p false} (C.binder h false) b)
   cancel h (App a b) = cc (cancel h a, cancel h b)
-  cancel h (Path a b c) = cc (cancel (C.binder h true) a, cancel h b, cancel h c)
-  cancel h (PathLam a b) = cc (cancel (C.binder h true) a, cancel (C.binder h true) b)
+  cancel {p = p} h (Path a b c) = cc (cancel {p = under p true} (C.binder h true) a, cancel h b, cancel h c)
+  cancel {p = p} h (PathLam a b) = cc (cancel {p = under p true} (C.binder h true) a, cancel {p = under p true} (C.binder h true) b)
   cancel h (PathApp a b) = cc (cancel h a, C.interval h b)
-  cancel h (Sigma a b) = cc (cancel h a, cancel (C.binder h false) b)
+  cancel {p = p} h (Sigma a b) = cc (cancel h a, cancel {p = under p false} (C.binder h false) b)
   cancel h (Pair a b c) = cc (cancel h a, cancel h b, cancel h c)
   cancel h (Fst a) = cc (cancel h a)
   cancel h (Snd a) = cc (cancel h a)
@@ -78,13 +78,13 @@ module _ {R : Op → Op → Op → Op → Type 0} (C : Commutes R) where
   commute h (Var n) = C.var h n
   commute h Nat = refl
   commute h Zero = refl
-  commute h (Pi a b) = cc (commute h a, commute (C.binder h false) b)
-  commute h (Lam a b) = cc (commute h a, commute (C.binder h false) b)
+  commute {p = p} h (Pi a b) = cc (commute h a, commute {p = under p false} (C.binder h false) b)
+  commute {p = p} h (Lam a b) = cc (commute h a, commute {p = under p false} (C.binder h false) b)
   commute h (App a b) = cc (commute h a, commute h b)
-  commute h (Path a b c) = cc (commute (C.binder h true) a, commute h b, commute h c)
-  commute h (PathLam a b) = cc (commute (C.binder h true) a, commute (C.binder h true) b)
+  commute {p = p} h (Path a b c) = cc (commute {p = under p true} (C.binder h true) a, commute h b, commute h c)
+  commute {p = p} h (PathLam a b) = cc (commute {p = under p true} (C.binder h true) a, commute {p = under p true} (C.binder h true) b)
   commute h (PathApp a b) = cc (commute h a, C.interval h b)
-  commute h (Sigma a b) = cc (commute h a, commute (C.binder h false) b)
+  commute {p = p} h (Sigma a b) = cc (commute h a, commute {p = under p false} (C.binder h false) b)
   commute h (Pair a b c) = cc (commute h a, commute h b, commute h c)
   commute h (Fst a) = cc (commute h a)
   commute h (Snd a) = cc (commute h a)
@@ -117,13 +117,13 @@ module _ (f g : Bool → Term → Term) where
   alike h (Var n) = refl
   alike h Nat = refl
   alike h Zero = refl
-  alike h (Pi a b) = cc (alike h a, alike (shifts_under f h false) b, alike_under h false)
-  alike h (Lam a b) = cc (alike h a, alike (shifts_under f h false) b, alike_under h false)
+  alike {op = op} h (Pi a b) = cc (alike h a, alike {op = under_with f op false} (shifts_under f h false) b, alike_under h false)
+  alike {op = op} h (Lam a b) = cc (alike h a, alike {op = under_with f op false} (shifts_under f h false) b, alike_under h false)
   alike h (App a b) = cc (alike h a, alike h b)
-  alike h (Path a b c) = cc (alike (shifts_under f h true) a, alike_under h true, alike h b, alike h c)
-  alike h (PathLam a b) = cc (alike (shifts_under f h true) a, alike_under h true, alike (shifts_under f h true) b, alike_under h true)
+  alike {op = op} h (Path a b c) = cc (alike {op = under_with f op true} (shifts_under f h true) a, alike_under h true, alike h b, alike h c)
+  alike {op = op} h (PathLam a b) = cc (alike {op = under_with f op true} (shifts_under f h true) a, alike_under h true, alike {op = under_with f op true} (shifts_under f h true) b, alike_under h true)
   alike h (PathApp a b) = cc (alike h a)
-  alike h (Sigma a b) = cc (alike h a, alike (shifts_under f h false) b, alike_under h false)
+  alike {op = op} h (Sigma a b) = cc (alike h a, alike {op = under_with f op false} (shifts_under f h false) b, alike_under h false)
   alike h (Pair a b c) = cc (alike h a, alike h b, alike h c)
   alike h (Fst a) = cc (alike h a)
   alike h (Snd a) = cc (alike h a)

@@ -1,12 +1,12 @@
 -- How large the numbers get: what moves under a binder has none more than one above what it had.
 use Rattle.std.specs.Prelude.{ℕ, suc, ◌≤◌, max, Bool, true, false}
-use native.Mathlib.Omega.{arith}
+use Rattle.std.proofs.Common.{arith}
 use Rattle.walk.specs.Syntax.{Interval, I0, I1, Dim, Neg, Meet, Join, Term, Universe, Var, Nat, Zero, Pi, Lam, App, Path, PathLam, PathApp, Sigma, Pair, Fst, Snd}
 use Rattle.walk.specs.Walk.Reference.{Op, Shift, Subst, DShift, DSubst, IOp, IShift}
 use Rattle.order.specs.Numbers.{interval_top, term_top}
 use Rattle.order.specs.Bound.{op_cutoff, op_top, iop_cutoff, iop_top}
 use Rattle.laws.specs.Indices.{up_low}
-use Rattle.laws.specs.Transforms.{itransform, at_var, at_interval, transform_with, lifted, under}
+use Rattle.laws.specs.Transforms.{itransform, at_var, at_interval, under_with, transform_with, lifted, under}
 use Rattle.laws.specs.Squares.{Shifts, vars, dims, shifts_under}
 
 -- the largest number that is handed over: the place, or one of what is put in; and one of what is transformed
@@ -48,13 +48,13 @@ module _ (f : Bool → Term → Term) where
   shift_top h (Var n) = var_shift_top h n
   shift_top h Nat = omega arith
   shift_top h Zero = omega arith
-  shift_top h (Pi a b) = let x = shift_top h a in let y = shift_top (shifts_under f h false) b in omega arith
-  shift_top h (Lam a b) = let x = shift_top h a in let y = shift_top (shifts_under f h false) b in omega arith
+  shift_top {op = op} h (Pi a b) = let x = shift_top h a in let y = shift_top {op = under_with f op false} (shifts_under f h false) b in omega arith
+  shift_top {op = op} h (Lam a b) = let x = shift_top h a in let y = shift_top {op = under_with f op false} (shifts_under f h false) b in omega arith
   shift_top h (App a b) = let x = shift_top h a in let y = shift_top h b in omega arith
-  shift_top h (Path a b c) = let x = shift_top (shifts_under f h true) a in let y = shift_top h b in let z = shift_top h c in omega arith
-  shift_top h (PathLam a b) = let x = shift_top (shifts_under f h true) a in let y = shift_top (shifts_under f h true) b in omega arith
+  shift_top {op = op} h (Path a b c) = let x = shift_top {op = under_with f op true} (shifts_under f h true) a in let y = shift_top h b in let z = shift_top h c in omega arith
+  shift_top {op = op} h (PathLam a b) = let x = shift_top {op = under_with f op true} (shifts_under f h true) a in let y = shift_top {op = under_with f op true} (shifts_under f h true) b in omega arith
   shift_top h (PathApp a b) = let x = shift_top h a in let y = interval_shift_top h b in omega arith
-  shift_top h (Sigma a b) = let x = shift_top h a in let y = shift_top (shifts_under f h false) b in omega arith
+  shift_top {op = op} h (Sigma a b) = let x = shift_top h a in let y = shift_top {op = under_with f op false} (shifts_under f h false) b in omega arith
   shift_top h (Pair a b c) = let x = shift_top h a in let y = shift_top h b in let z = shift_top h c in omega arith
   shift_top h (Fst a) = let x = shift_top h a in omega arith
   shift_top h (Snd a) = let x = shift_top h a in omega arith

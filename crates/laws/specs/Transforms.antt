@@ -68,7 +68,7 @@ module _ (lift : Bool → Term → Term) where
   transform_with op (Snd a) = Snd (transform_with op a)
   -- end of a term
 
--- A term moves under a binder by a shift at 0. A shift puts nothing in, so it has nothing to lift (`lifted-is` of Squares).
+-- A term moves under a binder by a shift at 0. A shift puts nothing in, so it has nothing to lift (`lifted_is` of Squares).
 unfoldable pub lifted : Bool → Term → Term
 lifted false t = transform_with (λ _ a. a) (Shift 0) t
 lifted true t = transform_with (λ _ a. a) (DShift 0) t

@@ -1,7 +1,7 @@
 -- The machine's run, from calls that were read: the cells of what is sent, each call, and its four answer words. Assumes nothing.
 use Rattle.std.specs.Prelude.{ℕ, ◌/◌, min, List, [], ◌∷◌, ◌++◌, length, drop}
 use Rattle.ast.specs.Cells.{quote_of}
-use Rattle.producer.specs.Machine.{Machine, machine, new_state, fresh, Result, is, not, W, ◌>>=◌, intern, make_universe, make_var, make_nat, make_zero, make_pi, make_lam, make_app, make_path, make_plam, make_papp, make_sigma, make_pair, make_fst, make_snd, make_i0, make_i1, make_dim, make_neg, make_meet, make_join, make_nil, make_cons}
+use Rattle.producer.specs.Machine.{Machine, machine, new_state, fresh, Result, is, not, W, ◌>>=◌, make_universe, make_var, make_nat, make_zero, make_pi, make_lam, make_app, make_path, make_plam, make_papp, make_sigma, make_pair, make_fst, make_snd, make_i0, make_i1, make_dim, make_neg, make_meet, make_join, make_nil, make_cons}
 use Rattle.producer.specs.Callees.{Callees}
 use Rattle.producer.specs.Calls.{callees}
 use Rattle.walk.specs.Syntax.{Interval, I0, I1, Dim, Neg, Meet, Join, Term, Universe, Var, Nat, Zero, Pi, Lam, App, Path, PathLam, PathApp, Sigma, Pair, Fst, Snd, Context, Nil, Cons}

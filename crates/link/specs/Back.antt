@@ -1,8 +1,7 @@
 -- The words that stand for a state are its table's: each cell's, each row's and an answer's; and what is read back from them is the table.
-use Rattle.std.specs.Prelude.{ℕ, suc, ◌+◌, ◌*◌, ◌≤◌, ◌<◌, ◌≡◌, Bool, true, false, length, get_or, drop, take, ltb, T}
+use Rattle.std.specs.Prelude.{ℕ, suc, ◌+◌, ◌*◌, ◌≤◌, ◌<◌, ◌≡◌, Bool, true, false, length, get_or, drop, take, ltb, T, List, [], ◌∷◌, ◌++◌}
 use Rattle.std.proofs.Math.Path.{refl}
-use Rattle.std.proofs.Common.{sym, ap, ◌∙◌, subst, arith, add-zero, lt→ltb, lit<}
-use mathlib.Core.List.{List, [], ◌∷◌, ◌++◌, append_assoc}
+use Rattle.std.proofs.Common.{sym, ap, ◌∙◌, subst, arith, add-zero, lt→ltb, lit<, append_assoc}
 use Rattle.std.proofs.Math.Option.{Option, none, some}
 use Rattle.std.proofs.Math.ListN.{get_or-append}
 use Rattle.ast.specs.declared.cells.Found.{Found}
@@ -12,14 +11,13 @@ use Rattle.producer.specs.Machine.{Machine}
 use Rattle.walk.specs.Syntax.{Interval, I0, I1, Dim, Neg, Meet, Join, Term, Universe, Var, Nat, Zero, Pi, Lam, App, Path, PathLam, PathApp, Sigma, Pair, Fst, Snd, Context, Nil, Cons, Quote, Quotes, quote, quotes}
 use Rattle.walk.specs.Judgment.{Judgment, kind, number, arguments}
 use Rattle.walk.specs.Rules.{Follows}
-use Rattle.walk.specs.Rule.{kind_of}
 use Rattle.schemas.specs.Concludes.{concludes, few_premises}
 use Rattle.walk.specs.Reader.{kinds, ikinds}
 use Rattle.walk.specs.State.{State, Row, Thing, term, interval, context, inference}
 use Rattle.walk.specs.Run.{Result, no_result, a_level, a_term}
 use Rattle.walk.specs.Demand.{RowAt, newest, older, Cites, none_cited, ◌also◌, RowFollows, DerivationOrder}
 use Rattle.link.specs.Lists.{Nth, here, there, nth_below, nth_lift, Extends, same, more, extends_trans, first_passes, block, last_block, read}
-use Rattle.link.specs.Things.{Shown, shown?, show, shows, yes_true, Counted, cell, Cell, Low, cell_is, is_cell, low_is, is_low, cell_lift, cell_nth, Plain}
+use Rattle.link.specs.Things.{Shown, shown?, show, shows, yes_true, Counted, Cell, Low, cell_is, is_cell, low_is, is_low, cell_lift, cell_nth, Plain}
 use Rattle.link.specs.Tables.{Shape, s_universe, s_var, s_nat, s_zero, s_pi, s_lam, s_app, s_path, s_plam, s_papp, s_sigma, s_pair, s_fst, s_snd, s_i0, s_i1, s_dim, s_neg, s_meet, s_join, s_nil, s_cons, Spoken, j_ctx, j_dshiftctx, j_lookup, j_lt, j_le, j_max, j_interval, j_ishift, j_isubst, j_shift, j_subst, j_dshift, j_dsubst, j_has, j_eq, j_lift, j_words}
 use Rattle.link.specs.Store.{refs_of, Block, plain, remembered, Line, line, Cells, comes, Kept, no_memory, a_memory_at}
 use Rattle.link.specs.Store.{row_words as row_of}

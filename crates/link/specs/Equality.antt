@@ -1,5 +1,5 @@
 -- Equality over words matches the walk's: reduce, normalize, equal.
-use Rattle.std.specs.Prelude.{ℕ, suc, ◌≡◌, List, Bool}
+use Rattle.std.specs.Prelude.{ℕ, ◌≡◌, List, Bool}
 use Rattle.std.proofs.Math.Path.{refl, subst}
 use Rattle.std.proofs.Common.{sym, ap}
 use Rattle.std.proofs.Math.Option.{Option}

@@ -21,7 +21,7 @@ use Rattle.walk.specs.Walk.Numbers.{larger}
 use Rattle.order.specs.Guarded.{beyond, word, bump_to, bump}
 use Rattle.link.specs.Lists.{Extends}
 use Rattle.link.specs.Things.{Cell, cell_lift}
-use Rattle.link.specs.Tables.{s_universe, s_var, s_nat, s_zero, s_pi, s_lam, s_app, s_path, s_plam, s_papp, s_sigma, s_pair, s_fst, s_snd, s_i0, s_i1, s_dim, s_neg, s_meet, s_join, s_nil, s_cons}
+use Rattle.link.specs.Tables.{s_universe, s_var, s_nat, s_zero, s_pi, s_lam, s_app, s_path, s_plam, s_papp, s_sigma, s_pair, s_fst, s_snd, s_i0, s_i1, s_dim, s_neg, s_meet, s_join, s_cons}
 use Rattle.link.specs.Holds.{Before, Holds}
 use Rattle.link.specs.Match.{Agree, by_guard, Matches, bind, nothing, the_interval, the_term, the_context, ◌with◌, counting, Same, Pairs, Returns, Absorbs, Few}
 

@@ -116,9 +116,9 @@ pub record EndsRun (o : Before) (xs : List Thing) (x : List Said × Machine) (y 
 pub asked_all : {o : Before} {w : Machine} {s : State} (calls : List Call) → Fit s → Holds o w s → EndsRun o s.cells (ask_all calls w) (play_all calls s)
 unfolding ask_all play_all
 asked_all [] f h = record { extends = same; holds = h; fit = f; says = none_say }
-asked_all (call ∷ calls) f h =
+asked_all {w = w} {s = s} (call ∷ calls) f h =
     let a = asked_sized call f h in
-    let b = asked_all calls a.fit a.holds in
+    let b = asked_all {w = (ask_sized (size_call call) call w).1} {s = (play call s).1} calls a.fit a.holds in
     record { extends = extends_trans a.extends b.extends; holds = b.holds; fit = b.fit; says = says_on (says_lift b.extends a.says) b.says }
 
 -- from the start, over slices that held anything

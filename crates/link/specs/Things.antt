@@ -1,8 +1,7 @@
 -- Things in cells: which cell a thing has, and which is the lowest with its quote. Assumes nothing.
-use Rattle.std.specs.Prelude.{ℕ, ◌≡◌, Bool, true, false, length}
+use Rattle.std.specs.Prelude.{ℕ, ◌≡◌, Bool, true, false, length, List, [], ◌∷◌, ◌++◌}
 use Rattle.std.proofs.Math.Path.{refl}
 use Rattle.std.proofs.Common.{sym, ap, ◌∙◌, arith}
-use mathlib.Core.List.{List, [], ◌∷◌, ◌++◌}
 use Rattle.std.proofs.Math.Option.{Option, none, some}
 use Rattle.ast.specs.Words.{ifb}
 use Rattle.ast.specs.Cells.{or_else}

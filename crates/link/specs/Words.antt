@@ -1,7 +1,7 @@
 -- A run over words, from bytes: what it answers and leaves is what the definition of the run says, and demand 3 holds of its
 -- table: `words`.
 use Rattle.std.specs.Prelude.{ℕ, suc, ◌+◌, ◌*◌, ◌≤◌, ◌<◌, ◌≡◌, refl, List, [], ◌∷◌, ◌++◌, Bool, true, false, ◌||◌, length, get_or, ltb}
-use Rattle.std.proofs.Common.{sym, arith, suc-mul, length-drop, nltb→le}
+use Rattle.std.proofs.Common.{arith, suc-mul, length-drop, nltb→le}
 use Rattle.std.proofs.Math.Path.{ap}
 use Rattle.std.proofs.Math.Option.{some}
 use Rattle.std.proofs.Math.Nat.{mul-div-le}
@@ -67,6 +67,7 @@ results_are (term_word l) = low_is l
 
 each_answered : {xs : List Thing} {saids : List Said} {answers : List Answer} (rest : List ℕ) (k : ℕ) (a : Answer) → AllSay xs saids answers → AnswerAt a k answers → AnswerWords xs (four_words saids ++ rest) k a
 unfolding four_words
+each_answered rest k a none_say m = elim m [ ]
 each_answered rest k a (says_on x xs) this_answer = record { number = x.number; row = x.row; result = results_are x.result; deepest = x.deepest }
 each_answered rest k a (says_on x xs) (later_answer m) = moved _ _ _ _ (each_answered rest _ a xs m)
 
@@ -93,7 +94,7 @@ first_rows (call ∷ first) others s g = first_rows first others (play call s).1
 first_cells : {o : Before} {w : Machine} {s : State} (first others : List Call) → Fit s → Holds o w s → Extends (play_all first s).1.cells (play_all (first ++ others) s).1.cells
 unfolding play_all
 first_cells [] others f h = (asked_all others f h).extends
-first_cells (call ∷ first) others f h = let a = asked_sized call f h in first_cells first others a.fit a.holds
+first_cells {w = w} {s = s} (call ∷ first) others f h = let a = asked_sized call f h in first_cells {w = (ask_sized (size_call call) call w).1} {s = (play call s).1} first others a.fit a.holds
 
 extends : {rs rs' : List Row} → Grows rs rs' → Extends rs rs'
 extends Grows.same = same

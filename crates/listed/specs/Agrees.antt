@@ -1,5 +1,5 @@
 -- Words that hold a quote, an argument, a judgment, a row or a call have its text. Assumes nothing.
-use Rattle.std.specs.Prelude.{◌≡◌, refl, List, [], ◌∷◌, ◌++◌, ℕ, zero, suc, ◌+◌, min, length}
+use Rattle.std.specs.Prelude.{◌≡◌, refl, List, [], ◌∷◌, ◌++◌, ℕ, zero, suc, min, length}
 use Rattle.std.proofs.Common.{ap, ◌∙◌, append-nil}
 use Rattle.std.proofs.Math.Nat.{min-eq_right}
 use Rattle.walk.specs.Syntax.{Interval, Quote, Quotes}

@@ -1,4 +1,4 @@
--- What the listing prints of a run is the listing of the walk's run: `listing-is` in Theorem, from the entry's contract alone.
+-- What the listing prints of a run is the listing of the walk's run: `listing_is` in Theorem, from the entry's contract alone.
 -- What readers must believe: Listed, and the texts that it cites: those of Said, `decimal` of `writer`, the names of `rules`.
 pub mod Said
 pub mod Listed

@@ -1,5 +1,5 @@
 -- The listing of a run of the walk, as docs/FORMAT.md says what the listing program prints: over the run's answers and its table, with
--- no words. A row's line and a call's line are `row-text` and `call-text` of Said. Assumes nothing.
+-- no words. A row's line and a call's line are `row_text` and `call_text` of Said. Assumes nothing.
 use Rattle.std.specs.Prelude.{ℕ, suc, true, false, List, [], ◌∷◌, ◌++◌, eqb, length}
 use Rattle.walk.specs.State.{Row}
 use Rattle.walk.specs.Run.{Answer, Ran, repeats}

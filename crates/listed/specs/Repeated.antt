@@ -6,7 +6,6 @@ use Rattle.std.proofs.Math.Option.{some, none}
 use Rattle.walk.specs.Reader.{Call, Code, CodeDiscrete, codes, c_context, c_universe, c_infer, c_check, c_normalise, c_equal}
 use Rattle.walk.specs.Run as R
 use Rattle.syntax.specs.Told.{code_number}
-use Rattle.lines.specs.Calls.{code}
 use Rattle.lines.specs.Repeats.{Accepted, call, with_call, accepted, same, occurs, repeats_after, repeats}
 use Rattle.listed.specs.Said.{CallsIn, no_calls, and_call}
 use Rattle.lines.specs.Counting.{with_yes, with_no, occurs_yes, occurs_no}

@@ -1,4 +1,4 @@
--- What `listing` prints of a run is the listing of the walk's run: `listing-is`. Of the entry nothing but its contract is used.
+-- What `listing` prints of a run is the listing of the walk's run: `listing_is`. Of the entry nothing but its contract is used.
 use Rattle.std.specs.Prelude.{ℕ, suc, ◌<◌, Bool, List, [], ◌∷◌, ◌++◌, eqb, length, get_or}
 use Rattle.std.proofs.Math.Path.{◌≡◌, refl}
 use Rattle.std.proofs.Common.{sym, ap, ◌∙◌, subst}

@@ -3,22 +3,21 @@
 -- `Within b m e Q`: from any state with b rows that fits, e does what m does, which is not stopped by the guard and leaves what fits.
 -- In quotes and terms: a row has no number above 33 and the rows below it, and what is handed about none above 32 and the rows.
 -- Elsewhere: dimension counts and cutoffs are at most 4,200, since each new one takes an entry; so 4,233 and the rows bound all.
-use Rattle.std.specs.Prelude.{ℕ, suc, ◌+◌, ◌≤◌, ◌<◌, max, ◌≡◌, List, [], ◌∷◌, ◌++◌, Bool, length}
+use Rattle.std.specs.Prelude.{ℕ, suc, ◌+◌, ◌≤◌, ◌<◌, ◌≡◌, List, [], ◌∷◌, ◌++◌, Bool, length}
 use Rattle.std.proofs.Math.Path.{refl, subst as along}
-use Rattle.std.proofs.Common.{ap, ◌∙◌}
+use Rattle.std.proofs.Common.{ap, arith}
 use Rattle.std.proofs.Math.Option.{Option, none, some}
 use Rattle.std.proofs.Math.Bool.{true, false}
 use Rattle.std.proofs.Math.Decide.{ℕ_discrete, dec_lt, dec_le}
-use native.Mathlib.Omega.{arith}
 use Rattle.walk.specs.Syntax.{Interval, I0, I1, Dim, Neg, Meet, Join, Term, Universe, Var, Nat, Zero, Pi, Lam, App, Path, PathLam, PathApp, Sigma, Pair, Fst, Snd, Context, Nil, Cons, quote, quotes, quote?}
 use Rattle.walk.specs.Judgment.{Judgment, ctx, dshiftctx, lookup, lt, le, max as is_max, interval, ishift, isubst, shift, subst, dshift, dsubst, has, eq}
 use Rattle.walk.specs.State.{Row, Key, key, key?, Thing, inference, State, Outcome, done, refused, M, go_on, looking, ◌>>=◌, pure, refuse, if◌then◌else◌, from◌get◌or◌, row_of, with_row, push, emit, among, with_cell, count, count_all, recall, Memory, with_memory, store, remember, with_conversions, ended, converted, converting, with_deepest, note, enter, of_term, of_interval, of_context}
-use Rattle.walk.specs.Walk.Reference.{Op, Shift, Subst, DShift, DSubst, IOp, IShift, ISubst, Step, Found, Callees, of_op, of_iop}
+use Rattle.walk.specs.Walk.Reference.{Op, Shift, Subst, DShift, DSubst, IOp, IShift, ISubst, Step, Callees, of_op, of_iop}
 use Rattle.walk.specs.Walk.Numbers.{lt_by, le_by, larger, comparison_body, max_body}
 use Rattle.walk.specs.Walk.Intervals.{itransformed, ifinish, idim_above, idim, itransform_body, interval_body}
 use Rattle.walk.specs.Walk.Transforms.{under_body, transformed, finish, tvar_above, tvar, tinterval, tbinder, tprojection, transform_body}
 use Rattle.walk.specs.Walk.Contexts.{dshiftctx_body, new_ctx, ctx_body, lookup_body}
-use Rattle.walk.specs.Reader.{Kind, KindDiscrete, k_u, k_v, k_nat, k_zero, k_pi, k_lam, k_app, k_path, k_plam, k_papp, k_sigma, k_pair, k_fst, k_snd}
+use Rattle.walk.specs.Reader.{Kind, KindDiscrete, k_pi, k_path, k_sigma}
 use Rattle.walk.specs.Walk.Typing.{level, pi_parts, lam_parts, path_parts, plam_parts, sigma_parts, pair_parts, expose_body, universe_body, check_body, view, headed, as_parts, as_pi, as_path, as_sigma, found, find_binder, find_pair, find, new_infer, infer_body}
 use Rattle.walk.specs.Walk.Equality.{beta, at_end, pbeta, ends, fst_beta, snd_beta, reduce_body, rounds, normalize_body, equal_body}
 use Rattle.walk.specs.Refusal as Refusal
@@ -278,7 +277,7 @@ counting_one {b} x l = record { holds = λ s e g. go s e g (among x s.cells) (de
     go s e g false (yes h) = let y = g.room in let z = g.cap in fine e (record { small = g.small; held = at_most_cons {x = x} (omega arith) g.held; remembered = g.remembered; room = g.room; cap = g.cap; low = g.low }) tt
     go s e g false (no h) = stopped {n = Refusal.cells} (λ z. omega arith) e g
 
-counting_below : {b m : ℕ} {xs : List Thing} → m ≤ 4233 + b → Cells m xs → Within b (count_all xs) (count_all xs) (λ _ _. Unit {0})
+counting_below : {m b : ℕ} {xs : List Thing} → m ≤ 4233 + b → Cells m xs → Within b (count_all xs) (count_all xs) (λ _ _. Unit {0})
 unfolding count_all
 counting_below l at_most_nil = giving tt λ _ _. tt
 counting_below l (at_most_cons {x = x} h hs) = bind (counting_one x (omega arith)) λ _ c e _. counting_below (omega arith) hs

@@ -1,4 +1,4 @@
--- What each call of a run leaves alone, wherever in the list it came: `each-call`.
+-- What each call of a run leaves alone, wherever in the list it came: `each_call`.
 use Rattle.std.specs.Prelude.{ℕ, ◌≤◌, ◌≡◌, refl, List, [], ◌∷◌, ◌++◌, length}
 use Rattle.std.proofs.Common.{arith}
 use Rattle.walk.specs.State.{Row, State}

@@ -17,10 +17,12 @@ all_below e none_cited = no_number
 all_below e (◌also◌ {n = m} h hs) = let l = at_below h in below {m = m} (omega arith) (all_below e hs)
 
 row_follows : {rs : List Row} → Order rs → (n : ℕ) (r : Row) → RowAt n r rs → RowFollows rs r
+row_follows empty n r h = elim h [ ]
 row_follows (st atop o) n r (newest e) = record { premises = st.premises; cited = lifts (more same) st.cited; follows = st.follows }
 row_follows (st atop o) n r (older h) = let f = row_follows o n r h in record { premises = f.premises; cited = lifts (more same) f.cited; follows = f.follows }
 
 lower : {rs : List Row} → Order rs → (n : ℕ) (r : Row) → RowAt n r rs → AllBelow n r.refs
+lower empty n r h = elim h [ ]
 lower (st atop o) n r (newest e) = all_below e st.cited
 lower (st atop o) n r (older h) = lower o n r h
 
@@ -28,6 +30,7 @@ pub derivation_order : {rs : List Row} → Order rs → DerivationOrder rs
 derivation_order o = record { follows = row_follows o; lower = lower o }
 
 same_row : {rs : List Row} → Order rs → (m n : ℕ) (j : Judgment) → At m j rs → At n j rs → m ≡ n
+same_row empty m n j h _ = elim h [ ]
 same_row (st atop o) m n j (here e q) (here f p) = omega arith
 same_row (st atop o) m n j (here e q) (there h) = absurd (st.new n (rw q at h))
 same_row (st atop o) m n j (there h) (here e q) = absurd (st.new m (rw q at h))
@@ -50,6 +53,7 @@ cited_derive f none_cited = no_premise
 cited_derive f (h also hs) = premise (f _ _ h) (cited_derive f hs)
 
 pub derives : {rs : List Row} → Order rs → (n : ℕ) (j : Judgment) → At n j rs → Derives rs j
+derives empty n j h = elim h [ ]
 derives (◌atop◌ {r = r} st o) n j (here p q) = step {rule = r.rule} {js = st.premises} (here p q) (rw q st.follows) (derives_all_more (cited_derive (derives o) st.cited))
 derives (st atop o) n j (there h) = derives_more (derives o n j h)
 

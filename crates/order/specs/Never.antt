@@ -6,7 +6,7 @@ use Rattle.walk.specs.State.{State, Outcome, M, with_deepest}
 use Rattle.walk.specs.Walk.{callees}
 use Rattle.walk.specs.Reader.{Code, c_context, c_universe, c_infer, c_check, c_normalise, c_equal, Call}
 use Rattle.walk.specs.Limits.{Sized, fits, scope_over, size_over, index_over, size_call}
-use Rattle.walk.specs.Run.{Result, Answer, answered, scope_of, nth, walk, play_sized, play, play_all, start, run, Ran}
+use Rattle.walk.specs.Run.{Result, Answer, answered, scope_of, nth, walk, play_sized, play, play_all, start, run}
 use Rattle.order.specs.Numbers.{largest, context_top, result_top, AtMost, at_most_nil, at_most_cons, NumbersBounded}
 use Rattle.order.specs.Bound.{Fit, no_rows, none_remembered, fit_bounded, After, fine, stopped, Within, bounds}
 use Rattle.order.specs.Sent.{Lows, nth_low, scope_low, let_in}

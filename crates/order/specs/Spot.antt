@@ -14,7 +14,7 @@ use Rattle.walk.specs.Walk.Intervals.{idim_above, idim, itransform_body, interva
 use Rattle.walk.specs.Walk.Transforms.{under_body, tvar_above, tvar, tbinder, tprojection, transform_body}
 use Rattle.walk.specs.Walk.Contexts.{dshiftctx_body, new_ctx, ctx_body, lookup_body}
 use Rattle.walk.specs.Reader.{Kind}
-use Rattle.walk.specs.Walk.Typing.{expose_body, universe_body, check_body, level, pi_parts, lam_parts, path_parts, plam_parts, sigma_parts, pair_parts, headed, as_parts, find_binder, find_pair, find, new_infer, infer_body}
+use Rattle.walk.specs.Walk.Typing.{expose_body, universe_body, check_body, lam_parts, sigma_parts, pair_parts, headed, as_parts, find_binder, find_pair, find, new_infer, infer_body}
 use Rattle.walk.specs.Walk.Equality.{beta, fst_beta, snd_beta, reduce_body, normalize_body, equal_body}
 use Rattle.walk.specs.Walk.{none_left, entered, one_more, callees_by, callees}
 use Rattle.walk.specs.Refusal as R

@@ -1,5 +1,5 @@
--- Demand 3 of the definition of the run, from bytes: `demand-3`.
-use Rattle.std.specs.Prelude.{ℕ, ◌+◌, ◌≤◌, ◌≡◌, refl, List, [], ◌∷◌, ◌++◌}
+-- Demand 3 of the definition of the run, from bytes: `demand_3`.
+use Rattle.std.specs.Prelude.{ℕ, ◌≤◌, ◌≡◌, refl, List, [], ◌∷◌, ◌++◌}
 use Rattle.std.proofs.Math.Nat.{mul-div-le}
 use Rattle.std.proofs.Common.{arith}
 use Rattle.walk.specs.State.{State}

@@ -1,7 +1,7 @@
 -- What the entry promises of every run of bytes and all three slices: the run of the definition (`walked`), in words.
 -- Which cell has which number is in `link`'s Things; how words are read, and what the words of an answer, a row and a cell are, in its
--- Table; demand 3's terms are in `walk`'s Demand. Nothing here speaks of how the entry works; `run-is-walked` of Same.Entry proves it.
-use Rattle.std.specs.Prelude.{ℕ, ◌*◌, ◌≤◌, ◌<◌, ◌≡◌, List, ◌++◌, length, get_or}
+-- Table; demand 3's terms are in `walk`'s Demand. Nothing here speaks of how the entry works; `run_is_walked` of Same.Entry proves it.
+use Rattle.std.specs.Prelude.{ℕ, ◌*◌, ◌≤◌, ◌≡◌, List, ◌++◌, length, get_or}
 use Rattle.std.proofs.Math.Option.{some}
 use Rattle.walk.specs.Judgment.{Judgment}
 use Rattle.walk.specs.State.{Row}

@@ -1,12 +1,9 @@
 -- Wrong outcomes that the contract refuses: what a wrong program would answer or leave, and the clause that it breaks. The runs are
 -- docs/FORMAT.md's, or of `walk`'s Examples, in slices that are full of sevens.
-use Prim.Native.Nat.{ℕ, suc, ◌+◌, ◌*◌, ◌<◌, ◌≤◌}
 use Rattle.std.proofs.Math.Path.{◌≡◌, sym, ap}
-use Rattle.std.specs.Prelude.{refl, length, replicate}
-use Rattle.std.proofs.Common.{◌∙◌, subst, lit<, lit≤}
-use mathlib.Core.List.{List, [], ◌∷◌}
+use Rattle.std.specs.Prelude.{ℕ, suc, ◌<◌, ◌≤◌, List, [], ◌∷◌, refl, length, replicate}
+use Rattle.std.proofs.Common.{◌∙◌, subst, lit<, lit≤, arith}
 use Rattle.std.proofs.Math.Option.{some}
-use native.Mathlib.Omega.{arith}
 use Rattle.std.proofs.Math.ListN.{get_or}
 use Rattle.walk.specs.Syntax.{Universe, Var, Nat, Zero, Pi, Lam, Nil, Quote, nat, zero, u, v, pi, lam, nil, cons, quote}
 use Rattle.walk.specs.Judgment.{Judgment, has}

@@ -1,10 +1,10 @@
 -- Judgments as trees, and back.
-use Rattle.std.specs.Prelude.{ℕ, ◌≡◌, refl, List, [], ◌∷◌, Bool, true, false, cond, eqb}
+use Rattle.std.specs.Prelude.{ℕ, ◌≡◌, refl, List, [], ◌∷◌, Bool, true, false, eqb}
 use Rattle.walk.specs.Syntax.{Interval, I0, I1, Dim, Neg, Meet, Join, Quote, u, v, nat, zero, pi, lam, app, path, plam, papp, sigma, pair, fst, snd, Quotes, nil, cons}
 use Rattle.walk.specs.Judgment.{Judgment, ctx, dshiftctx, lookup, lt, le, max, interval, ishift, isubst, shift, subst, dshift, dsubst, has, eq}
 use Prim.Native.String.{String}
 use Rattle.rules.specs.Names.{bytes}
-use Rattle.schemas.specs.Tree.{Text, Tree, leaf, word, ◌·◌, end, named, ◌!◌, Value}
+use Rattle.schemas.specs.Tree.{Text, leaf, word, ◌·◌, end, named, ◌!◌, Value}
 
 -- there
 

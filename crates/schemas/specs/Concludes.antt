@@ -113,6 +113,7 @@ said js j e rule p t q i =
     (sym (begins j) ∙ ap (λ x. place x names) w ∙ eqb→eq _ _ t₃.0 ∙ ap kind_of q, omega arith)
 
 said_in : {n : ℕ} (js : List Judgment) (j : Judgment) (ls : List Line) → T (all_fit ls) → Instance n (step js j) ls → (kind j ≡ kind_of n) × (length js ≤ 10)
+said_in js j [] t x = elim x [ ]
 said_in js j (l ∷ ls) t (here q e i) = said js j e l.rule (pattern l) (both (fits l.rule (pattern l)) _ t).0 q i
 said_in js j (l ∷ ls) t (there x) = said_in js j ls (both (fits l.rule (pattern l)) _ t).1 x
 

@@ -5,7 +5,7 @@ use Rattle.std.proofs.Math.Dec.{leb-suc-zero, leb-suc-suc}
 use Rattle.walk.specs.Judgment.{Judgment}
 use Rattle.walk.specs.Rules.{Follows}
 use Rattle.walk.specs.Rules as R
-use Rattle.schemas.specs.Tree.{Value, Pattern, Env, instance}
+use Rattle.schemas.specs.Tree.{Value, Env, instance}
 use Rattle.schemas.specs.Code.{step, premises, conclusion, read_premises, read_conclusion}
 use Rattle.schemas.specs.Match.{fillings, decide}
 use Rattle.schemas.specs.Table.{Line, pattern, lines}
@@ -149,6 +149,7 @@ holds =
     all
 
 sound_in : {ls : List Line} {n : ℕ} {t : Value} → All ls → Instance n t ls → Follows n (premises t) (conclusion t)
+sound_in all x = elim x [ ]
 sound_in (h and hs) (here q e i) = rw (← i, ← q) (h e)
 sound_in (h and hs) (there x) = sound_in hs x
 

@@ -1,8 +1,7 @@
 -- A call's bytes: its context and its terms become their cells, and the call over them is `link`'s.
-use Rattle.std.specs.Prelude.{ℕ, ◌+◌, ◌≤◌, ◌≡◌, refl, length, drop}
+use Rattle.std.specs.Prelude.{ℕ, ◌+◌, ◌≤◌, ◌≡◌, refl, length, drop, List, [], ◌∷◌}
 use Rattle.std.proofs.Math.Path.{sym, ap}
 use Rattle.std.proofs.Common.{◌∙◌, arith}
-use mathlib.Core.List.{List, [], ◌∷◌}
 use Rattle.ast.specs.Words.{up}
 use Rattle.producer.specs.Machine.{W, ◌>>=◌, give, when◌then◌else◌, intern, make_nil, make_cons}
 use Rattle.producer.specs.Callees.{Callees, prepared}

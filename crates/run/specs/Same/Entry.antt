@@ -6,7 +6,7 @@ use Rattle.walk.specs.State.{State, Row, Thing}
 use Rattle.walk.specs.Reader.{Call}
 use Rattle.walk.specs.Run.{Answer, play, play_all, start}
 use Rattle.walk.specs.Run as W
-use Rattle.walk.specs.Demand.{At, here, there, Distinct, cut, Stated, AllStated, call_on, Demand3}
+use Rattle.walk.specs.Demand.{At, here, there, Distinct, cut, Stated, AllStated, no_call, call_on, Demand3}
 use Rattle.std.proofs.Math.Nat.{mul-div-le}
 use Rattle.order.specs.Cases.{run_cases}
 use Rattle.order.specs.Counts.{run_counts}
@@ -37,6 +37,7 @@ cut_in n (r ∷ rs) m j h = go (ltb n (length rs)) (cut_in n rs m j) h
 
 cut_states : (n : ℕ) (rs : List Row) (m : ℕ) (j : Judgment) → m ≤ n → At m j rs → At m j (cut n rs)
 unfolding cut
+cut_states n [] m j l h = elim h [ ]
 cut_states n (r ∷ rs) m j l (here e q) = go (ltb n (length rs)) refl
   where
     go : (b : Bool) → ltb n (length rs) ≡ b → At m j (elim b as (λ _. List Row) [ true ↦ cut n rs | false ↦ r ∷ rs ])
@@ -58,6 +59,7 @@ record StatedAt (table : List Row) (answers : List Answer) (k : ℕ) (c : Call) 
   stated : answer.number ≡ 0 → Stated table c answer
 
 stated_at : {table : List Row} {calls : List Call} {answers : List Answer} {k : ℕ} {c : Call} → AllStated table calls answers → CallAt c k calls → StatedAt table answers k c
+stated_at no_call c = elim c [ ]
 stated_at (call_on s rest) this_call = record { answer = _; at = this_answer; stated = s }
 stated_at (call_on s rest) (later_call c) = let x = stated_at rest c in record { answer = x.answer; at = later_answer x.at; stated = x.stated }
 

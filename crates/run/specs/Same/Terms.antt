@@ -1,10 +1,8 @@
--- The bytes of a term that was read become its cells: `built` is `build-term`.
-use Prim.Native.Nat.{ℕ, zero, suc, ◌+◌, ◌≤◌, ◌<◌}
+-- The bytes of a term that was read become its cells: `built` is `build_term`.
 use Rattle.std.proofs.Math.Path.{◌≡◌, refl, sym, ap}
 use Rattle.std.proofs.Common.{◌∙◌, arith}
-use mathlib.Core.List.{List}
 use Rattle.std.proofs.Math.ListN.{length}
-use Rattle.std.specs.Prelude.{drop}
+use Rattle.std.specs.Prelude.{ℕ, zero, suc, ◌+◌, ◌≤◌, ◌<◌, List, drop}
 use Rattle.ast.specs.Words.{up}
 use Rattle.producer.specs.Machine.{W, ◌>>=◌, when◌then◌else◌, intern}
 use Rattle.walk.specs.Syntax.{Interval, I0, I1, Dim, Neg, Meet, Join, Term, Universe, Var, Nat, Zero, Pi, Lam, App, Path, PathLam, PathApp, Sigma, Pair, Fst, Snd}
