@@ -4,15 +4,11 @@ use Prim.Native.Nat.{ℕ, zero, suc, ◌-◌, ◌+◌, ◌<◌, ◌≤◌}
 use mathlib.Core.Path.{◌≡◌, refl}
 use mathlib.Core.Bool.{Bool}
 use mathlib.Core.List.{List, [], ◌∷◌}
-use mathlib.Core.Logic.{inl, inr}
 use native.Mathlib.Numerals.{sub-one}
 use native.Mathlib.Omega.{arith}
-use denote.Enum.Declared as enum
-use types.Run.{OneOf}
 use Rattle.walk.specs.Refusal as Refusal
 use Rattle.ast.specs.declared.cells.Shape.{Shape}
 use Rattle.ast.specs.declared.cells.Shape.TheVariants.{Universe, Pi, Lam, Path, Plam, Sigma, Pair, Other}
-use Rattle.ast.specs.contracts.cells.Shape as shape
 use Rattle.producer.specs.declared.answers.Got.{Got}
 use Rattle.producer.specs.declared.answers.Got.TheVariants as got
 use Rattle.producer.specs.declared.answers.Two.{Two}
@@ -193,21 +189,12 @@ unfolding ended end_2 ended_2
 ended_two_end (two.Pair s x y) R C = refl
 ended_two_end (two.Refused s e) R C = refl
 
--- a shape that is not the one taken apart: its tag is one of the others'
+-- a shape that is not the one taken apart
 
 -- written by tools/written.py: shapes
-pub not_universe : {A : Type 0} (x : Shape) → OneOf (1 ∷ 2 ∷ 3 ∷ 4 ∷ 5 ∷ 6 ∷ 7 ∷ []) (enum.tag_of shape.the_type x) → (f : ℕ → W A) (z : W A) → on_universe x f z ≡ z
+pub not_universe : {A : Type 0} (x : Shape) → ((n : ℕ) → x ≡ Universe n → ⊥) → (f : ℕ → W A) (z : W A) → on_universe x f z ≡ z
 unfolding on_universe
-not_universe (Universe n) h f z = absurd (none_of h)
-  where
-    none_of : OneOf (1 ∷ 2 ∷ 3 ∷ 4 ∷ 5 ∷ 6 ∷ 7 ∷ []) 0 → ⊥
-    none_of (inl e) = omega arith
-    none_of (inr (inl e)) = omega arith
-    none_of (inr (inr (inl e))) = omega arith
-    none_of (inr (inr (inr (inl e)))) = omega arith
-    none_of (inr (inr (inr (inr (inl e))))) = omega arith
-    none_of (inr (inr (inr (inr (inr (inl e)))))) = omega arith
-    none_of (inr (inr (inr (inr (inr (inr e)))))) = omega arith
+not_universe (Universe n) h f z = absurd (h n refl)
 not_universe (Pi a b) h f z = refl
 not_universe (Lam a b) h f z = refl
 not_universe (Path a b c) h f z = refl
@@ -216,19 +203,10 @@ not_universe (Sigma a b) h f z = refl
 not_universe (Pair a b c) h f z = refl
 not_universe Other h f z = refl
 
-pub not_pi : {A : Type 0} (x : Shape) → OneOf (0 ∷ 2 ∷ 3 ∷ 4 ∷ 5 ∷ 6 ∷ 7 ∷ []) (enum.tag_of shape.the_type x) → (f : ℕ → ℕ → W A) (z : W A) → on_pi x f z ≡ z
+pub not_pi : {A : Type 0} (x : Shape) → ((a b : ℕ) → x ≡ Pi a b → ⊥) → (f : ℕ → ℕ → W A) (z : W A) → on_pi x f z ≡ z
 unfolding on_pi
 not_pi (Universe n) h f z = refl
-not_pi (Pi a b) h f z = absurd (none_of h)
-  where
-    none_of : OneOf (0 ∷ 2 ∷ 3 ∷ 4 ∷ 5 ∷ 6 ∷ 7 ∷ []) 1 → ⊥
-    none_of (inl e) = omega arith
-    none_of (inr (inl e)) = omega arith
-    none_of (inr (inr (inl e))) = omega arith
-    none_of (inr (inr (inr (inl e)))) = omega arith
-    none_of (inr (inr (inr (inr (inl e))))) = omega arith
-    none_of (inr (inr (inr (inr (inr (inl e)))))) = omega arith
-    none_of (inr (inr (inr (inr (inr (inr e)))))) = omega arith
+not_pi (Pi a b) h f z = absurd (h a b refl)
 not_pi (Lam a b) h f z = refl
 not_pi (Path a b c) h f z = refl
 not_pi (Plam a b) h f z = refl
@@ -236,87 +214,51 @@ not_pi (Sigma a b) h f z = refl
 not_pi (Pair a b c) h f z = refl
 not_pi Other h f z = refl
 
-pub not_lam : {A : Type 0} (x : Shape) → OneOf (0 ∷ 1 ∷ 3 ∷ 4 ∷ 5 ∷ 6 ∷ 7 ∷ []) (enum.tag_of shape.the_type x) → (f : ℕ → ℕ → W A) (z : W A) → on_lam x f z ≡ z
+pub not_lam : {A : Type 0} (x : Shape) → ((a b : ℕ) → x ≡ Lam a b → ⊥) → (f : ℕ → ℕ → W A) (z : W A) → on_lam x f z ≡ z
 unfolding on_lam
 not_lam (Universe n) h f z = refl
 not_lam (Pi a b) h f z = refl
-not_lam (Lam a b) h f z = absurd (none_of h)
-  where
-    none_of : OneOf (0 ∷ 1 ∷ 3 ∷ 4 ∷ 5 ∷ 6 ∷ 7 ∷ []) 2 → ⊥
-    none_of (inl e) = omega arith
-    none_of (inr (inl e)) = omega arith
-    none_of (inr (inr (inl e))) = omega arith
-    none_of (inr (inr (inr (inl e)))) = omega arith
-    none_of (inr (inr (inr (inr (inl e))))) = omega arith
-    none_of (inr (inr (inr (inr (inr (inl e)))))) = omega arith
-    none_of (inr (inr (inr (inr (inr (inr e)))))) = omega arith
+not_lam (Lam a b) h f z = absurd (h a b refl)
 not_lam (Path a b c) h f z = refl
 not_lam (Plam a b) h f z = refl
 not_lam (Sigma a b) h f z = refl
 not_lam (Pair a b c) h f z = refl
 not_lam Other h f z = refl
 
-pub not_path : {A : Type 0} (x : Shape) → OneOf (0 ∷ 1 ∷ 2 ∷ 4 ∷ 5 ∷ 6 ∷ 7 ∷ []) (enum.tag_of shape.the_type x) → (f : ℕ → ℕ → ℕ → W A) (z : W A) → on_path x f z ≡ z
+pub not_path : {A : Type 0} (x : Shape) → ((a b c : ℕ) → x ≡ Path a b c → ⊥) → (f : ℕ → ℕ → ℕ → W A) (z : W A) → on_path x f z ≡ z
 unfolding on_path
 not_path (Universe n) h f z = refl
 not_path (Pi a b) h f z = refl
 not_path (Lam a b) h f z = refl
-not_path (Path a b c) h f z = absurd (none_of h)
-  where
-    none_of : OneOf (0 ∷ 1 ∷ 2 ∷ 4 ∷ 5 ∷ 6 ∷ 7 ∷ []) 3 → ⊥
-    none_of (inl e) = omega arith
-    none_of (inr (inl e)) = omega arith
-    none_of (inr (inr (inl e))) = omega arith
-    none_of (inr (inr (inr (inl e)))) = omega arith
-    none_of (inr (inr (inr (inr (inl e))))) = omega arith
-    none_of (inr (inr (inr (inr (inr (inl e)))))) = omega arith
-    none_of (inr (inr (inr (inr (inr (inr e)))))) = omega arith
+not_path (Path a b c) h f z = absurd (h a b c refl)
 not_path (Plam a b) h f z = refl
 not_path (Sigma a b) h f z = refl
 not_path (Pair a b c) h f z = refl
 not_path Other h f z = refl
 
-pub not_plam : {A : Type 0} (x : Shape) → OneOf (0 ∷ 1 ∷ 2 ∷ 3 ∷ 5 ∷ 6 ∷ 7 ∷ []) (enum.tag_of shape.the_type x) → (f : ℕ → ℕ → W A) (z : W A) → on_plam x f z ≡ z
+pub not_plam : {A : Type 0} (x : Shape) → ((a b : ℕ) → x ≡ Plam a b → ⊥) → (f : ℕ → ℕ → W A) (z : W A) → on_plam x f z ≡ z
 unfolding on_plam
 not_plam (Universe n) h f z = refl
 not_plam (Pi a b) h f z = refl
 not_plam (Lam a b) h f z = refl
 not_plam (Path a b c) h f z = refl
-not_plam (Plam a b) h f z = absurd (none_of h)
-  where
-    none_of : OneOf (0 ∷ 1 ∷ 2 ∷ 3 ∷ 5 ∷ 6 ∷ 7 ∷ []) 4 → ⊥
-    none_of (inl e) = omega arith
-    none_of (inr (inl e)) = omega arith
-    none_of (inr (inr (inl e))) = omega arith
-    none_of (inr (inr (inr (inl e)))) = omega arith
-    none_of (inr (inr (inr (inr (inl e))))) = omega arith
-    none_of (inr (inr (inr (inr (inr (inl e)))))) = omega arith
-    none_of (inr (inr (inr (inr (inr (inr e)))))) = omega arith
+not_plam (Plam a b) h f z = absurd (h a b refl)
 not_plam (Sigma a b) h f z = refl
 not_plam (Pair a b c) h f z = refl
 not_plam Other h f z = refl
 
-pub not_sigma : {A : Type 0} (x : Shape) → OneOf (0 ∷ 1 ∷ 2 ∷ 3 ∷ 4 ∷ 6 ∷ 7 ∷ []) (enum.tag_of shape.the_type x) → (f : ℕ → ℕ → W A) (z : W A) → on_sigma x f z ≡ z
+pub not_sigma : {A : Type 0} (x : Shape) → ((a b : ℕ) → x ≡ Sigma a b → ⊥) → (f : ℕ → ℕ → W A) (z : W A) → on_sigma x f z ≡ z
 unfolding on_sigma
 not_sigma (Universe n) h f z = refl
 not_sigma (Pi a b) h f z = refl
 not_sigma (Lam a b) h f z = refl
 not_sigma (Path a b c) h f z = refl
 not_sigma (Plam a b) h f z = refl
-not_sigma (Sigma a b) h f z = absurd (none_of h)
-  where
-    none_of : OneOf (0 ∷ 1 ∷ 2 ∷ 3 ∷ 4 ∷ 6 ∷ 7 ∷ []) 5 → ⊥
-    none_of (inl e) = omega arith
-    none_of (inr (inl e)) = omega arith
-    none_of (inr (inr (inl e))) = omega arith
-    none_of (inr (inr (inr (inl e)))) = omega arith
-    none_of (inr (inr (inr (inr (inl e))))) = omega arith
-    none_of (inr (inr (inr (inr (inr (inl e)))))) = omega arith
-    none_of (inr (inr (inr (inr (inr (inr e)))))) = omega arith
+not_sigma (Sigma a b) h f z = absurd (h a b refl)
 not_sigma (Pair a b c) h f z = refl
 not_sigma Other h f z = refl
 
-pub not_pair : {A : Type 0} (x : Shape) → OneOf (0 ∷ 1 ∷ 2 ∷ 3 ∷ 4 ∷ 5 ∷ 7 ∷ []) (enum.tag_of shape.the_type x) → (f : ℕ → ℕ → ℕ → W A) (z : W A) → on_pair x f z ≡ z
+pub not_pair : {A : Type 0} (x : Shape) → ((a b c : ℕ) → x ≡ Pair a b c → ⊥) → (f : ℕ → ℕ → ℕ → W A) (z : W A) → on_pair x f z ≡ z
 unfolding on_pair
 not_pair (Universe n) h f z = refl
 not_pair (Pi a b) h f z = refl
@@ -324,18 +266,8 @@ not_pair (Lam a b) h f z = refl
 not_pair (Path a b c) h f z = refl
 not_pair (Plam a b) h f z = refl
 not_pair (Sigma a b) h f z = refl
-not_pair (Pair a b c) h f z = absurd (none_of h)
-  where
-    none_of : OneOf (0 ∷ 1 ∷ 2 ∷ 3 ∷ 4 ∷ 5 ∷ 7 ∷ []) 6 → ⊥
-    none_of (inl e) = omega arith
-    none_of (inr (inl e)) = omega arith
-    none_of (inr (inr (inl e))) = omega arith
-    none_of (inr (inr (inr (inl e)))) = omega arith
-    none_of (inr (inr (inr (inr (inl e))))) = omega arith
-    none_of (inr (inr (inr (inr (inr (inl e)))))) = omega arith
-    none_of (inr (inr (inr (inr (inr (inr e)))))) = omega arith
+not_pair (Pair a b c) h f z = absurd (h a b c refl)
 not_pair Other h f z = refl
-
 -- end of shapes
 
 -- one round, and none left
