@@ -1,7 +1,7 @@
 -- A call over words ends as the walk's does, from any state that the calls before it left.
 use Rattle.std.specs.Prelude.{ℕ, ◌+◌, ◌*◌, ◌≤◌, ◌≡◌, refl, List, [], length, get_or}
 use Rattle.std.proofs.Common.{arith}
-use Rattle.ast.specs.Indexed.{index_none}
+use Rattle.ast.proofs.Indexed.{index_none}
 use Rattle.producer.specs.Machine.{Machine, Result, is, not, W}
 use Rattle.producer.specs.Callees.{Callees}
 use Rattle.walk.specs.Syntax.{Term, Context}

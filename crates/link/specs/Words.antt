@@ -17,7 +17,7 @@ use Rattle.walk.specs.Run as R
 use Rattle.walk.specs.Demand.{RowAt, newest, older, DerivationOrder, Demand3}
 use Rattle.walk.specs.Demand.{Extends as Grows}
 use Rattle.walk.specs.Sound.Logic.{Good}
-use Rattle.walk.specs.Calls.{play_left, play_all_left}
+use Rattle.walk.proofs.Calls.{play_left, play_all_left}
 use Rattle.order.specs.Bound.{Fit}
 use Rattle.order.specs.Never.{start_fits}
 use Rattle.order.specs.Cases.{run_cases}

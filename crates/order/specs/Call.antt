@@ -6,7 +6,7 @@ use Rattle.walk.specs.Reader.{Call, terms_of}
 use Rattle.walk.specs.Run.{play, play_all, Ran, start, run}
 use Rattle.walk.specs.Demand.{Extends, same, more, Stated}
 use Rattle.walk.specs.Sound.Logic.{Good}
-use Rattle.walk.specs.Calls.{play_left, play_all_left}
+use Rattle.walk.proofs.Calls.{play_left, play_all_left}
 use Rattle.order.specs.Reading.{Full, AllFull, full_on}
 use Rattle.order.specs.Cases.{run_cases}
 use Rattle.order.specs.Counts.{play_counts, play_all_counts}

@@ -7,7 +7,7 @@ use Rattle.walk.specs.Reader.{Call}
 use Rattle.walk.specs.Run.{play, play_all, start, refused_run, played, run}
 use Rattle.walk.specs.Demand.{Extends, same, no_call, Demand3}
 use Rattle.walk.specs.Sound.Logic.{Good, empty, nothing}
-use Rattle.walk.specs.Calls.{play_all_left}
+use Rattle.walk.proofs.Calls.{play_all_left}
 use Rattle.order.specs.Cases.{run_cases}
 use Rattle.order.specs.Counts.{played_counts}
 use Rattle.order.specs.Derivation.{derivation_order, distinct, derives, cut_order}

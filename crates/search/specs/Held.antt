@@ -28,7 +28,7 @@ use Rattle.link.specs.Holds.{Before, Holds, nth_of}
 use Rattle.link.specs.Table.{◌>>=◌, kind_word, lower, ckinds, interval_at, quote_at, context_at, a_quote, an_interval, a_context, row_word, cell_words, words_at, CellsWords, argument_word, RowWords, TableWords}
 use Rattle.walk.specs.Run.{play_all}
 use Rattle.walk.specs.Run as R
-use Rattle.walk.specs.Calls.{play_all_left}
+use Rattle.walk.proofs.Calls.{play_all_left}
 use Rattle.order.specs.Derivation.{derivation_order, distinct}
 use Rattle.order.specs.Theorem.{start_good}
 use Rattle.link.specs.Asked.{ask_all, start}

@@ -10,7 +10,8 @@ use Rattle.std.proofs.lemmas.List.Edits.{sets}
 use Rattle.std.proofs.Math.Seq.{get_or-set_same, get_or-set_other, length-sets}
 use Rattle.ast.specs.Words.{ifb}
 use Rattle.ast.specs.Index.{end_on, linked}
-use Rattle.ast.specs.Indexed.{Reaches, reaches, index_none, index_one, index_more}
+use Rattle.ast.specs.Indexed.{Reaches}
+use Rattle.ast.proofs.Indexed.{reaches, index_none, index_one, index_more}
 use Rattle.producer.specs.declared.rows.Refs.{Refs}
 use Rattle.producer.specs.Machine.{Machine, row_slot, quarter, row_hash, link_row, row_block, add_row}
 use Rattle.walk.specs.Rule.{kind_of}

@@ -1,4 +1,4 @@
--- The definition of the run, and the proof that its table is a derivation order.
+-- The definition of the run, and what it is that its table is a derivation order; that it is one is proved in proofs/.
 -- What readers must believe: Syntax, Judgment, Rule, Rules, Refusal, State, Walk, Reader, Limits, Run, Demand.
 pub mod Syntax
 pub mod Judgment

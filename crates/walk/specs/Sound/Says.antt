@@ -3,8 +3,9 @@ use Rattle.std.specs.Prelude.{ℕ, suc, ◌≡◌, List, [], ◌∷◌, Bool, tr
 use Rattle.std.proofs.Math.Option.{Option, none, some}
 use Rattle.walk.specs.Syntax.{quote, quotes, Interval, Term, Universe, Context}
 use Rattle.walk.specs.Judgment.{Judgment, ctx, dshiftctx, lookup, max, interval, ishift, isubst, shift, dshift}
+use Rattle.walk.specs.Rules.{Follows}
 use Rattle.walk.specs.State.{Row, pure}
-use Rattle.walk.specs.Walk.{Op, Shift, Subst, DShift, DSubst, IOp, Step, Callees, compared, larger, itransformed, transformed, typing, equation}
+use Rattle.walk.specs.Walk.{Op, Shift, Subst, DShift, DSubst, IOp, Step, Found, Callees, compared, larger, itransformed, transformed, typing, equation}
 use Rattle.walk.specs.Demand.{At, Cites}
 use Rattle.walk.specs.Sound.Logic.{Keeps}
 
@@ -40,6 +41,12 @@ pub record Moved (r : Interval) (op : Op) (out : Interval × List ℕ) (rs : Lis
 abbrev pub Stepped : ℕ → Context → Term → Option Step → List Row → Type 0
 Stepped d g t none rs = Unit {0}
 Stepped d g t (some step) rs = At step.row (equation d g t step.term step.type) rs
+
+-- what `find` finds follows
+pub record Finds (d : ℕ) (g : Context) (t : Term) (found : Found) (rs : List Row) : Type 0 where
+  pub premises : List Judgment
+  pub cited : Cites rs found.refs premises
+  pub follows : Follows found.rule premises (typing d g t found.type)
 
 -- what each function's row says, and that the number after n is n + 1
 pub record Sound (c : Callees) : Type 0 where
