@@ -28,6 +28,7 @@ pub fn byte(bytes: &[u8], at: u32) -> u32
 }
 
 // What follows a kind's byte: 1 nothing, 2 a number, 3 one part, 4 two parts, 5 three parts; 0 for no kind.
+#[tactic(auto, unfolding(crate::specs::Build::parts_of))]
 pub fn parts(kind: u32) -> u32
     ensures { result ≡ parts_of kind }
 {
@@ -59,7 +60,7 @@ pub fn parts(kind: u32) -> u32
 }
 
 // The cell of the term or interval at `at`, and the offset past it; `left` levels of depth are allowed.
-#[cycle(build_one_three_two)]
+#[cycle(build)]
 pub fn build(state: State, left: u32, bytes: &[u8], at: u32, rows: &[u32], cells: &mut [u32]) -> Two
     ensures { end_2 result rows.now cells.new ≡ built left bytes.now at (machine rows.now cells.old state) }
 {
@@ -100,7 +101,7 @@ pub fn build(state: State, left: u32, bytes: &[u8], at: u32, rows: &[u32], cells
 }
 
 // A cell with one part.
-#[cycle(build_one_three_two)]
+#[cycle(build)]
 pub fn one(
     state: State,
     left: u32,
@@ -123,7 +124,7 @@ pub fn one(
 }
 
 // A cell with two parts.
-#[cycle(build_one_three_two)]
+#[cycle(build)]
 pub fn two(
     state: State,
     left: u32,
@@ -150,7 +151,7 @@ pub fn two(
 }
 
 // A cell with three parts.
-#[cycle(build_one_three_two)]
+#[cycle(build)]
 pub fn three(
     state: State,
     left: u32,
@@ -181,6 +182,7 @@ pub fn three(
 }
 
 // The context `g` with `left` more types, which start at `at`; and the offset past them.
+#[tactic(auto, unfolding(producer::specs::Machine::end_2, crate::specs::Build::scoped_body, crate::proofs::Steps::steps))]
 pub fn scope(
     state: State,
     left: u32,

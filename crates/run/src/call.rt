@@ -14,6 +14,7 @@ use syntax::{CallHead, calls};
 
 // The row and the result of the call at `at`, which has this head, or its refusal. A result that is a term is the lowest cell with
 // its quote.
+#[tactic(auto, unfolding(producer::specs::Machine::end_2, crate::specs::Call::called, crate::proofs::Steps::steps))]
 pub fn call(
     state: State,
     bytes: &[u8],
@@ -32,6 +33,7 @@ pub fn call(
 }
 
 // The context of a call, whose types start at `at`; then the function of its code.
+#[tactic(auto, unfolding(producer::specs::Machine::end_2, crate::specs::Call::with_context, crate::proofs::Steps::steps))]
 pub fn enter_context(
     state: State,
     left: u32,
@@ -66,6 +68,7 @@ pub fn enter_context(
 }
 
 // Enters the function of a code; its terms start at `at`.
+#[tactic(auto, unfolding(producer::specs::Machine::end_2, crate::specs::Call::by_code, crate::proofs::Steps::steps))]
 pub fn enter(
     state: State,
     left: u32,
@@ -108,6 +111,7 @@ pub fn enter(
 }
 
 // A function of two terms or three, the first of which is made.
+#[tactic(auto, unfolding(producer::specs::Machine::end_2, crate::specs::Call::with_term, crate::proofs::Steps::steps))]
 pub fn enter_two(
     state: State,
     left: u32,
@@ -145,6 +149,7 @@ pub fn enter_two(
 }
 
 // The last term is the type at which two are equal.
+#[tactic(auto, unfolding(producer::specs::Machine::end_2, crate::specs::Call::with_sides, crate::proofs::Steps::steps))]
 pub fn enter_equal(
     state: State,
     left: u32,

@@ -17,7 +17,7 @@ use syntax::{Scanned, Size, scan_run, size_call};
 const NO_ROW: u32 = 4294967295;
 
 // What a call leaves: the counts, its answer, and where the next one starts.
-#[derive(Drop)]
+#[derive(Clone, Copy)]
 pub struct Turn {
     pub state: State,
     pub number: u32,
@@ -28,6 +28,7 @@ pub struct Turn {
 }
 
 // The low 32 bits.
+#[tactic(auto, unfolding(crate::specs::Run::low_of))]
 fn low(n: usize) -> u32
     ensures { result ≡ low_of n }
 {
@@ -35,6 +36,7 @@ fn low(n: usize) -> u32
 }
 
 // The number, but no more than `most`.
+#[tactic(auto, unfolding(crate::specs::Run::at_most))]
 fn cap(n: usize, most: u32) -> u32
     ensures { result ≡ at_most n most }
 {
@@ -42,6 +44,7 @@ fn cap(n: usize, most: u32) -> u32
 }
 
 // Where a run starts from: no rows, cells or memory, in slices of so many words.
+#[tactic(auto, unfolding(crate::specs::Run::started))]
 fn start(limit: usize, rows: usize, cells: usize) -> State
     ensures { result ≡ started limit rows cells }
 {
@@ -52,6 +55,7 @@ fn start(limit: usize, rows: usize, cells: usize) -> State
 }
 
 // A call that is refused before the walk.
+#[tactic(auto, unfolding(crate::specs::Run::refused_of))]
 fn refused(state: State, number: u32, next: usize) -> Turn
     ensures { result ≡ refused_of state number next }
 {
@@ -66,6 +70,7 @@ fn refused(state: State, number: u32, next: usize) -> Turn
 }
 
 // A call that was walked.
+#[tactic(auto, unfolding(crate::specs::Run::answered_of))]
 fn answered(q: Two, next: usize) -> Turn
     ensures { result ≡ answered_of q next }
 {
@@ -90,6 +95,7 @@ fn answered(q: Two, next: usize) -> Turn
 }
 
 // The call at `at`: its limits first. In a run that was read, no size is bad or short.
+#[tactic(auto, unfolding(crate::specs::Run::turned, crate::specs::Run::turned_by, crate::proofs::Steps::steps))]
 fn step(
     state: State,
     bytes: &[u8],
@@ -126,6 +132,7 @@ fn put_answer(answers: &mut [u32], i: u32, number: u32, row: u32, res: u32, deep
 }
 
 // Plays so many calls, the first at offset 2.
+#[tactic(auto, unfolding(crate::specs::Run::played, crate::proofs::Steps::steps))]
 fn play(
     state: State,
     calls: u32,
@@ -153,6 +160,7 @@ fn play(
 }
 
 // A run that is refused as a whole.
+#[tactic(auto, unfolding(crate::specs::Run::refused_run))]
 fn no_run(number: u32, place: usize) -> Ran
     ensures { result ≡ refused_run number place }
 {
@@ -166,6 +174,7 @@ fn no_run(number: u32, place: usize) -> Ran
 }
 
 // Refusals 1 to 4 are found before anything is stored, the lowest first; then the calls are played.
+#[tactic(auto, unfolding(crate::specs::Run::run_of, crate::specs::Run::run_by, crate::specs::Run::read_run))]
 fn play_run(bytes: &[u8], rows: &mut [u32], cells: &mut [u32], answers: &mut [u32]) -> Ran
     ensures { end_run result rows.new cells.new answers.new ≡ run_of bytes.now rows.old cells.old answers.old }
 {
