@@ -1,4 +1,4 @@
--- The rules by number, in the order of docs/FORMAT.md: `eq·p1` is its eq.p1; with their names and what each concludes.
+-- The rules by number, in the order of docs/FORMAT.md: `eq_p1` is its eq.p1; with their names and what each concludes.
 -- Written by tools/written.py from tools/language.py; `python3 tools/written.py` makes it again.
 use Rattle.std.specs.Prelude.{ℕ, suc, ◌≡◌, refl, List, [], ◌∷◌, get_or}
 use Prim.Native.String.{String}
