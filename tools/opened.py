@@ -16,7 +16,7 @@ WALK['Walk'] = ['Walk/' + part for part in PARTS] + ['Walk']
 MODEL = [('ast', module) for module in ['Words', 'Cells', 'Index', 'Nodes']]
 MODEL += [('producer', module) for module in ['Machine', 'Callees'] + PARTS[1:] + ['Calls']]
 MODEL += [('link', module) for module in ['Asked', 'Table']]
-TAKEN = {'Limits': 'size-on node size-interval size-term size-terms size-call', 'Run': 'scope-of'}
+TAKEN = {'Limits': 'size_on node size_interval size_term size_terms size_call', 'Run': 'scope_of'}
 
 
 def unfoldable(crate, file):
@@ -33,14 +33,14 @@ def write(crate, said, uses, names):
 
 
 def walk():
-    uses = ['use native.Mathlib.Decide.{ℕ-discrete, decLt, decLe}']
-    opened = ['ℕ-discrete', 'decLt', 'decLe']
+    uses = ['use Rattle.std.proofs.Math.Decide.{ℕ_discrete, dec_lt, dec_le}']
+    opened = ['ℕ_discrete', 'dec_lt', 'dec_le']
     for module, files in WALK.items():
         names = [name for file in files for name in unfoldable('walk', file)]
         # The reader's sequencing has the name of the walk's.
-        alias = {'_>>=_': '_>>=ʳ_'} if module == 'Reader' else {}
+        alias = {'◌>>=◌': '◌>>=ʳ◌'} if module == 'Reader' else {}
         used = ['%s as %s' % (name, alias[name]) if name in alias else name for name in names]
-        uses.append('use Rattle·walk·specs.specs.%s.{%s}' % (module, ', '.join(used)))
+        uses.append('use Rattle.walk.specs.%s.{%s}' % (module, ', '.join(used)))
         opened += [alias.get(name, name) for name in names]
     said = ['Every definition of the run, opened at once: `unfolding opened` computes a run.', 'Written by tools/opened.py.']
     write('walk', said, uses, opened)
@@ -49,13 +49,12 @@ def walk():
 def link():
     uses, opened = [], []
     for crate, module in MODEL:
-        own = '·specs' if crate == 'link' else ''
-        alias = module if crate == 'link' else crate + '-' + module
-        uses.append('use Rattle·%s%s.specs.%s as %s' % (crate, own, module, alias))
+        alias = module if crate == 'link' else crate + '_' + module
+        uses.append('use Rattle.%s.specs.%s as %s' % (crate, module, alias))
         opened += [alias + '.' + name for name in unfoldable(crate, module)]
     for module, names in TAKEN.items():
-        uses.append('use Rattle·walk.specs.%s as walk-%s' % (module, module))
-        opened += ['walk-%s.%s' % (module, name) for name in names.split()]
+        uses.append('use Rattle.walk.specs.%s as walk_%s' % (module, module))
+        opened += ['walk_%s.%s' % (module, name) for name in names.split()]
     said = ['Every definition of the run over words, opened at once: `unfolding opened` computes it. Written by tools/opened.py.']
     write('link', said, uses, opened)
 

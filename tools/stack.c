@@ -2,7 +2,7 @@
    limit that is named, on a stack that is painted first; printed are the limit, the deepest nesting that was met, and how many bytes
    of the paint are gone.
 
-     rt staticlib exports
+     tools/library.sh
      cc -O2 -pthread -o target/stack tools/stack.c target/staticlib/libexports.a
      python3 tools/edges.py deep | target/stack 1 256 1024 2048 4096 */
 #include <pthread.h>

@@ -55,7 +55,7 @@ def main():
     os.chdir(os.path.join(os.path.dirname(os.path.abspath(__file__)), '..'))
     common.well_formed()
     bad = []
-    others = glob.glob('crates/*/specs/**/*.antt', recursive=True)
+    others = glob.glob('crates/*/specs/**/*.antt', recursive=True) + glob.glob('crates/*/proofs/**/*.antt', recursive=True)
     for path in sorted(set(common.files) | set(common.sections) | set(others)):
         old = open(path, encoding='utf-8').read() if os.path.exists(path) else ''
         if path in common.files:

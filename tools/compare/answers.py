@@ -1,7 +1,7 @@
 #!/usr/bin/env python3
 """Plays runs with answers, rN.jsonl, through the program's library, and says where its words differ.
 
-    tools/compare/answers.py LIBRARY FILE..      # LIBRARY: libexports.a, of `rt staticlib exports` or of unproved.sh
+    tools/compare/answers.py LIBRARY FILE..      # LIBRARY: libexports.a, of `tools/library.sh` or of unproved.sh
 
 A line of a file is a run as an object: table_words, cell_words, answer_words, run (hexadecimal), and what it answers: listing; results
 and args where the file has them, the result word of each call and the argument words of each row; made, the first working word of each

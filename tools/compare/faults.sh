@@ -4,8 +4,8 @@
 #   tools/compare/faults.sh SOURCE_FOLDER
 # SOURCE_FOLDER, or else ORACLE_SOURCE, is the oracle's (tools/oracle/build.sh).
 # Nothing is proved here: the copies are compiled as `rt try` does. The
-# interpreter's own verdict on `replay` is left out: it stops after 10,000,000
-# steps, and the stored runs take more.
+# interpreter gives no answer on `replay`, since the stored runs take more steps
+# than it goes; the run that is compiled with checks does.
 set -eu
 here=$(cd "$(dirname "$0")" && pwd)
 root=$(cd "$here/../.." && pwd)
@@ -21,6 +21,7 @@ fault() {
     rm -rf "$copy"
     mkdir "$copy"
     cp -R "$root/crates" "$root/crates.txt" "$copy"
+    rm -rf "$copy"/crates/*/out
     wanted=1
     if [ -n "$2" ]; then
         awk -v old="$3" -v new="$4" '!done && $0 == old { print new; done = 1; next } { print }
@@ -39,13 +40,11 @@ fault() {
     "$work/target/release/compare" 1 20000 >"$work/compared" || status=$?
     grep -E 'DIFFERENCE|smallest run|^bytes|^slices|no difference|runs compared' "$work/compared"
     [ "$status" -eq "$wanted" ] || { echo "compare: status $status, wanted $wanted"; failed=1; }
-    (cd "$copy" && rt try replay) >"$work/tried" 2>&1 || :
-    grep -A1 'the native program at -O3' "$work/tried" | cut -c1-300
-    case $wanted in
-    0) line='^ok: the native program at -O3' ;;
-    *) line='^FAIL: the native program at -O3' ;;
-    esac
-    grep -q "$line" "$work/tried" || { echo "replay: not as it should be"; failed=1; }
+    (cd "$copy/crates/replay" && rt try <stdin) >"$work/tried" 2>"$work/said" || :
+    tail -n1 "$work/tried"
+    status=0
+    cmp -s "$work/tried" "$copy/crates/replay/stdout" || status=1
+    [ -s "$work/tried" ] && [ "$status" -eq "$wanted" ] || { echo "replay: not as it should be"; failed=1; }
 }
 
 fault 'no fault' '' '' ''

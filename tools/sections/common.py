@@ -109,7 +109,7 @@ TAKEN = [k for k in TERMS if k.taken]
 
 def one_taken(kind):
     """What a lemma about a kind that is taken apart is named by: level, pi, lam."""
-    return kind.taken.replace('-parts', '')
+    return kind.taken.replace('_parts', '')
 
 
 def variant(kind):
@@ -148,24 +148,29 @@ def nested(parts, step, last):
     return last if not parts else step(parts[0], nested(parts[1:], step, last))
 
 
+def snake(name):
+    """A name of the table as a word of antt."""
+    return re.sub('[.-]', '_', name)
+
+
 def antt_name(rule):
-    return rule.name.replace('.', '·')
+    return snake(rule.name)
 
 
 # ---- use lines: one that names the first of a group names all of it
 
 GROUPS = {
     'Syntax': [[k.node for k in TERMS], [k.node for k in INTERVALS], [k.name for k in TERMS]],
-    'Reader': [['k-' + k.tag for k in TERMS], ['k-' + k.tag for k in INTERVALS], ['c-' + c.name for c in CALLS]],
+    'Reader': [['k_' + k.tag for k in TERMS], ['k_' + k.tag for k in INTERVALS], ['c_' + c.name for c in CALLS]],
     'Judgment': [[j.name for j in JUDGMENTS]],
-    'Tables': [['s-' + k.word for k in ALL], ['l-' + k.word for k in ALL], ['j-' + j.name for j in JUDGMENTS]],
-    'Table': [['read-' + j.name for j in JUDGMENTS]],
-    'Said': [['cell-' + k.tag for k in INTERVALS], ['cell-' + k.tag for k in TERMS]],
-    'Machine': [['make-' + k.word for k in ALL], ['at-' + k.word for k in TAKEN], ['on-' + k.word for k in TAKEN]],
-    'Walk': [[k.taken for k in TAKEN], [k.tag + '-rule' for k in RULED]],
+    'Tables': [['s_' + k.word for k in TERMS], ['s_' + k.word for k in INTERVALS], ['l_' + k.word for k in ALL], ['j_' + j.name for j in JUDGMENTS]],
+    'Table': [['read_' + j.name for j in JUDGMENTS]],
+    'Said': [['cell_' + k.tag for k in INTERVALS], ['cell_' + k.tag for k in TERMS]],
+    'Machine': [['make_' + k.word for k in ALL], ['at_' + k.word for k in TAKEN], ['on_' + k.word for k in TAKEN]],
+    'Walk': [[k.taken for k in TAKEN], [k.tag + '_rule' for k in RULED]],
     'Walk.Typing': [[k.taken for k in TAKEN]],
-    'Open': [['at-' + k.word for k in TAKEN]],
-    'declared.cells.Shape.the-variants': [[variant(k) for k in TAKEN]],
+    'Open': [['at_' + k.word for k in TAKEN]],
+    'declared.cells.Shape.TheVariants': [[variant(k) for k in TAKEN]],
 }
 
 

@@ -40,8 +40,8 @@ def _():
 
 @section(FORMAT, 'judgments')
 def _():
-    return ['| kind | judgment | arguments | says that |', '|---|---|---|---|'] + [
-        '| %d | %s | %s | %s |' % (j.number, j.name, ', '.join(p.name for p in j.parts), j.meaning) for j in JUDGMENTS]
+    rows = ['| %d | %s | %s | %s |' % (j.number, j.name, ', '.join(p.name for p in j.parts), j.meaning) for j in JUDGMENTS]
+    return ['| kind | judgment | arguments | says that |', '|---|---|---|---|'] + [row.replace("'", '′') for row in rows]
 
 
 @section(FORMAT, 'rules')

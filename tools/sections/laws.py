@@ -24,7 +24,7 @@ def by_parts(head, k, at_index, part):
 
 def of_interval(k):
     head = 'itransform op %s = ' % node(k)
-    return head + ('at-dim op n' if k.node == 'Dim' else ' '.join([k.node] + ['(itransform op %s)' % v for _, v in parts_of(k)]))
+    return head + ('at_dim op n' if k.node == 'Dim' else ' '.join([k.node] + ['(itransform op %s)' % v for _, v in parts_of(k)]))
 
 
 def of_term(k):
@@ -32,10 +32,10 @@ def of_term(k):
         if p.sort == 'number':
             return v
         if p.sort == 'interval':
-            return '(at-interval op %s)' % v
-        return '(transform-with %s %s)' % ('(under-with lift op %s)' % BINDER[p.under] if p.under else 'op', v)
-    head = 'transform-with op %s = ' % node(k)
-    return head + ('at-var op n' if k.node == 'Var' else ' '.join([k.node] + [part(p, v) for p, v in parts_of(k)]))
+            return '(at_interval op %s)' % v
+        return '(transform_with %s %s)' % ('(under_with lift op %s)' % BINDER[p.under] if p.under else 'op', v)
+    head = 'transform_with op %s = ' % node(k)
+    return head + ('at_var op n' if k.node == 'Var' else ' '.join([k.node] + [part(p, v) for p, v in parts_of(k)]))
 
 
 each(TRANSFORMS, 'an interval', INTERVALS, of_interval)
@@ -44,12 +44,18 @@ each(TRANSFORMS, 'a term', TERMS, of_term)
 
 # ---- two of them, one after the other
 
+def head(name, implicit, k):
+    """A clause's left side: the implicit argument by its name, where a part under a binder has another."""
+    return '%s%s h %s = ' % (name, ' {%s = %s}' % (implicit, implicit) if any(p.under for p in k.parts) else '', node(k))
+
+
 def square(name, k):
     def part(p, v):
         if p.sort == 'interval':
-            return ['C .interval h ' + v]
-        return ['%s %s %s' % (name, '(C .binder h %s)' % BINDER[p.under] if p.under else 'h', v)]
-    return by_parts('%s h %s = ' % (name, node(k)), k, 'C .var h n', part)
+            return ['C.interval h ' + v]
+        under = BINDER[p.under] if p.under else ''
+        return ['%s %s %s' % (name, '{p = under p %s} (C.binder h %s)' % (under, under) if under else 'h', v)]
+    return by_parts(head(name, 'p', k), k, 'C.var h n', part)
 
 
 for NAME in ('cancel', 'commute'):
@@ -57,14 +63,19 @@ for NAME in ('cancel', 'commute'):
     each(SQUARES, NAME + ', a term', TERMS, lambda k, name=NAME: square(name, k))
 
 
+def under_shift(p):
+    """The operation under a part's binder, and that it shifts."""
+    return '{op = under_with f op %s} (shifts_under f h %s)' % (BINDER[p.under], BINDER[p.under])
+
+
 def alike(k):
     def part(p, v):
         if p.sort == 'interval':
             return []
         if p.under:
-            return ['alike (shifts-under f h %s) %s' % (BINDER[p.under], v), 'alike-under h ' + BINDER[p.under]]
+            return ['alike %s %s' % (under_shift(p), v), 'alike_under h ' + BINDER[p.under]]
         return ['alike h ' + v]
-    return by_parts('alike h %s = ' % node(k), k, 'refl', part)
+    return by_parts(head('alike', 'op', k), k, 'refl', part)
 
 
 each(SQUARES, 'alike', TERMS, alike)
@@ -79,16 +90,16 @@ def lets(k, part):
 def shift_top(k):
     def part(p, v):
         if p.sort == 'interval':
-            return 'interval-shift-top h ' + v
-        return 'shift-top %s %s' % ('(shifts-under f h %s)' % BINDER[p.under] if p.under else 'h', v)
-    return 'shift-top h %s = ' % node(k) + ('var-shift-top h n' if k.node == 'Var' else 'omega arith' if is_number(k) else lets(k, part))
+            return 'interval_shift_top h ' + v
+        return 'shift_top %s %s' % (under_shift(p) if p.under else 'h', v)
+    return head('shift_top', 'op', k) + ('var_shift_top h n' if k.node == 'Var' else 'omega arith' if is_number(k) else lets(k, part))
 
 
-each(TOPS, 'an interval', INTERVALS, lambda k: 'ishift-top k %s = ' % node(k) + ('up-low k n' if is_number(k) else lets(k, lambda p, v: 'ishift-top k ' + v)))
+each(TOPS, 'an interval', INTERVALS, lambda k: 'ishift_top k %s = ' % node(k) + ('up_low k n' if is_number(k) else lets(k, lambda p, v: 'ishift_top k ' + v)))
 each(TOPS, 'a term', TERMS, shift_top)
 
 # ---- Cells: a term with the parts that a quote leaves out
 
 AT = {'term': 'at', 'interval': 'iat'}
-each(CELLS, 'a term', TERMS, lambda k: 'term-by at iat k-%s a b c = %s' % (k.tag, read_node(k, k.node, k.parts, AT)))
+each(CELLS, 'a term', TERMS, lambda k: 'term_by at iat k_%s a b c = %s' % (k.tag, read_node(k, k.node, k.parts, AT)))
 each(CELLS, 'terms', TERMS, lambda k: back(k, 'term', k.parts))

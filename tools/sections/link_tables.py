@@ -8,7 +8,7 @@ from .common import CONTEXTS, INFERENCE, INTERVALS, JUDGMENTS, NODE_TYPES, NOTE,
 # none where the part is left out.
 Row = namedtuple('Row', 'name kind stands sorts')
 
-THING = [(TERMS, 'term', 'a-quote'), (INTERVALS, 'interval', 'an-interval'), (CONTEXTS, 'context', 'a-context')]
+THING = [(TERMS, 'term', 'a_quote'), (INTERVALS, 'interval', 'an_interval'), (CONTEXTS, 'context', 'a_context')]
 OF_THINGS = {sort: (NODE_TYPES[sort], sort) for _, sort, _ in THING}
 OF_QUOTES = {sort: (QUOTE_TYPES[sort], shown) for _, sort, shown in THING}
 
@@ -41,8 +41,8 @@ def table(data, rows, sorts, prefix, relation, width, what, counted=False):
     """A data type with a constructor a row, and the lemmas on it. relation: Cell or Low. counted: a word has the number of parts."""
     words = list('abcde'[:width])
     index = ['kind'] + (['count'] if counted else []) + words
-    primed = [name + '′' for name in index]
-    other = ['count′' if name == 'count' else name for name in index]
+    primed = [name + "'" for name in index]
+    other = ["count'" if name == 'count' else name for name in index]
     rel = relation.lower()
     constructors, lifts, sames, words_same = [], [], [], []
     for row in rows:
@@ -57,21 +57,21 @@ def table(data, rows, sorts, prefix, relation, width, what, counted=False):
                 arguments.append(word)
             else:
                 of, wrap = sorts[s]
-                implicit.append(f'{{{word}′ : {of}}}')
-                arguments.append(word + '′')
-                premises.append(f'{relation} {word} ({wrap} {word}′) xs → ')
+                implicit.append(f"{{{word}' : {of}}}")
+                arguments.append(word + "'")
+                premises.append(f"{relation} {word} ({wrap} {word}') xs → ")
         stand += ['0'] * (width - len(stand))
         numbers = [str(row.kind)] + ([str(len(row.sorts))] if counted else []) + stand
         binders = ' '.join(implicit) + ' → ' if implicit else ''
         name, n = prefix + row.name, cells(row)
         constructors.append(f"  {name} : {binders}{''.join(premises)}{data} xs {' '.join(numbers)} ({row.stands(arguments)})")
         h, k = pattern(name, 'h', n), pattern(name, 'k', n)
-        lifts.append(f'{prefix}lift e {h} = ' + ' '.join([name] + [f'({rel}-lift e h{i})' for i in range(n)]))
+        lifts.append(f'{prefix}lift e {h} = ' + ' '.join([name] + [f'({rel}_lift e h{i})' for i in range(n)]))
         for lemma, by, out in [('same', 'same', sames), ('words', 'number', words_same)]:
-            lets = ''.join(f'let e{i} = {rel}-{by} h{i} k{i} in ' for i in range(n))
+            lets = ''.join(f'let e{i} = {rel}_{by} h{i} k{i} in ' for i in range(n))
             out.append(f"{prefix}{lemma} {h} {k} = {lets + 'cc' if n else 'refl'}")
     i, j, things = ' '.join(index), ' '.join(primed), '{xs : List Thing}'
-    both = ' '.join(index[:1] + (['count', 'count′'] if counted else []) + words)
+    both = ' '.join(index[:1] + (['count', "count'"] if counted else []) + words)
 
     def lemma(name, type_, clauses):
         return f'pub {prefix}{name} : {type_}\n' + '\n'.join(clauses)
@@ -95,15 +95,15 @@ def parts_known():
     """A thing's parts have cells where its shape is known."""
     parts_of, known = [], []
     for row in THINGS:
-        arguments = [word + '′' for word, _ in zip('abc', row.sorts)]
+        arguments = [word + "'" for word, _ in zip('abc', row.sorts)]
         listed_parts = ''.join(f'{s} {a} ∷ ' for s, a in zip(row.sorts, arguments) if s != 'number')
         parts_of.append(f'parts ({row.stands(arguments)}) = {listed_parts}[]')
         n = cells(row)
-        held = ''.join(f'known (held h{i}) (' for i in range(n)) + 'none-left' + ')' * n
-        known.append(f"shape-known {pattern('s-' + row.name, 'h', n)} = {held}")
+        held = ''.join(f'known (held h{i}) (' for i in range(n)) + 'none_left' + ')' * n
+        known.append(f"shape_known {pattern('s_' + row.name, 'h', n)} = {held}")
     return ('-- the parts of a thing have cells\nabbrev pub parts : Thing → List Thing\n'
             + '\n'.join(parts_of) + '\nparts (inference k) = []\n\n'
-            'pub shape-known : {xs : List Thing} {kind a b c : ℕ} {x : Thing} → Shape xs kind a b c x → Known xs (parts x)\n' + '\n'.join(known))
+            'pub shape_known : {xs : List Thing} {kind a b c : ℕ} {x : Thing} → Shape xs kind a b c x → Known xs (parts x)\n' + '\n'.join(known))
 
 
 @whole('crates/link/specs/Tables.antt')
@@ -113,21 +113,17 @@ def _():
     return '\n\n'.join([
         f'''-- What the words of a cell and of a row stand for: a constructor a kind.
 -- {NOTE}
-use Prim.Native.Nat.{{ℕ}}
-use mathlib.Core.Path.{{_≡_, refl}}
-use mathlib.Core.List.{{List, [], _∷_}}
-use mathlib.Core.Bool.{{false}}
-use lib.Dec.{{eqb}}
-use Rattle·walk.specs.Syntax.{{{', '.join(nodes + quotes)}}}
-use Rattle·walk.specs.Judgment.{{Judgment}}
-use Rattle·walk.specs.Judgment as J
-use Rattle·walk.specs.State.{{Thing, term, interval, context, inference}}
-use Rattle·link·specs.specs.Lists.{{Extends}}
-use Rattle·link·specs.specs.Things.{{Shown, a-quote, an-interval, a-context, Cell, Low, cell-lift, low-lift, cell-same, cell-number, low-same, low-number, Plain, Seen, held, Known, none-left, known}}''',
-        '-- the kind and the parts of a cell\n' + table('Shape', THINGS, OF_THINGS, 's-', 'Cell', 3, 'Thing'),
-        '-- the same of a quote, over the lowest cells with its parts\n' + table('Look', QUOTES, OF_QUOTES, 'l-', 'Low', 3, 'Shown'),
-        plain('Shape', THINGS, 's-', 'Thing', 'Plain'),
-        plain('Look', QUOTES, 'l-', 'Shown', 'Seen'),
+use Rattle.std.specs.Prelude.{{ℕ, ◌≡◌, refl, List, [], ◌∷◌, false, eqb}}
+use Rattle.walk.specs.Syntax.{{{', '.join(nodes + quotes)}}}
+use Rattle.walk.specs.Judgment.{{Judgment}}
+use Rattle.walk.specs.Judgment as J
+use Rattle.walk.specs.State.{{Thing, term, interval, context, inference}}
+use Rattle.link.specs.Lists.{{Extends}}
+use Rattle.link.specs.Things.{{Shown, a_quote, an_interval, a_context, Cell, Low, cell_lift, low_lift, cell_same, cell_number, low_same, low_number, Plain, Seen, held, Known, none_left, known}}''',
+        '-- the kind and the parts of a cell\n' + table('Shape', THINGS, OF_THINGS, 's_', 'Cell', 3, 'Thing'),
+        '-- the same of a quote, over the lowest cells with its parts\n' + table('Look', QUOTES, OF_QUOTES, 'l_', 'Low', 3, 'Shown'),
+        plain('Shape', THINGS, 's_', 'Thing', 'Plain'),
+        plain('Look', QUOTES, 'l_', 'Shown', 'Seen'),
         parts_known(),
-        '-- the kind and the arguments of a judgment\n' + table('Spoken', SPOKEN, OF_QUOTES, 'j-', 'Low', 5, 'Judgment', counted=True),
+        '-- the kind and the arguments of a judgment\n' + table('Spoken', SPOKEN, OF_QUOTES, 'j_', 'Low', 5, 'Judgment', counted=True),
     ]) + '\n'

@@ -16,39 +16,39 @@ def quoted(k):
 
 
 def texts(k):
-    return 'decimal n ∷ []' if is_number(k) else ''.join('%s-text %s ∷ ' % (OF[s], x) for s, _, x, _ in seen(k)) + '[]'
+    return 'decimal n ∷ []' if is_number(k) else ''.join('%s_text %s ∷ ' % (OF[s], x) for s, _, x, _ in seen(k)) + '[]'
 
 
 def text(k, group):
     said = 'called (bytes "%s") (%s)' % (k.name, texts(k)) if k.parts else 'bytes "%s"' % k.name
-    return '%s-text %s = %s' % (group, quoted(k), said)
+    return '%s_text %s = %s' % (group, quoted(k), said)
 
 
 def cell(k, group):
-    name = group.capitalize() + '-cell'
+    name = group.capitalize() + 'Cell'
     end = '%s C i %s' % (name, quoted(k))
-    kind = 'cell-word C i 0 ≡ %d → ' % k.byte
+    kind = 'cell_word C i 0 ≡ %d → ' % k.byte
     if is_number(k):
-        return 'cell-%s : {i n : ℕ} → %scell-word C i 1 ≡ n → %s' % (k.tag, kind, end)
+        return 'cell_%s : {i n : ℕ} → %scell_word C i 1 ≡ n → %s' % (k.tag, kind, end)
     words = ' '.join(['i'] + [v for _, v, _, _ in seen(k)])
     quotes = ''.join(' {%s : %s}' % (x, QUOTE_TYPES[s]) for s, _, x, _ in seen(k))
-    parts = ''.join('Part-in C i %d %s → %s-cell C %s %s → ' % (n, v, OF[s].capitalize(), v, x) for s, v, x, n in seen(k))
-    return 'cell-%s : {%s : ℕ}%s → %s%s%s' % (k.tag, words, quotes, kind, parts, end)
+    parts = ''.join('PartIn C i %d %s → %sCell C %s %s → ' % (n, v, OF[s].capitalize(), v, x) for s, v, x, n in seen(k))
+    return 'cell_%s : {%s : ℕ}%s → %s%s%s' % (k.tag, words, quotes, kind, parts, end)
 
 
 def said(k, group):
     """Absent parts, up to three, leave nothing before the closing parenthesis."""
     if not k.parts:
-        return '%s-said (cell-%s k) = rw (quote-node, k)' % (group, k.tag)
-    closed = ' (close-%d (spaced (bytes "(%s") (%s)))'
+        return '%s_said (cell_%s k) = rw (quote_node, k)' % (group, k.tag)
+    closed = ' (close_%d (spaced (bytes "(%s") (%s)))'
     if is_number(k):
-        return '%s-said (cell-%s {n = n} k e) = rw (quote-node, k, e)' % (group, k.tag) + closed % (2, k.name, texts(k))
+        return '%s_said (cell_%s {n = n} k e) = rw (quote_node, k, e)' % (group, k.tag) + closed % (2, k.name, texts(k))
     parts = seen(k)
     quotes = ''.join(' {%s = %s}' % (x, x) for _, _, x, _ in parts)
     held = ''.join(' p%d h%d' % (n, n) for _, _, _, n in parts)
-    proofs = ''.join(', part-said _ p%d (%s-said h%d)' % (n, OF[s], n) for s, _, _, n in parts)
+    proofs = ''.join(', part_said _ p%d (%s_said h%d)' % (n, OF[s], n) for s, _, _, n in parts)
     end = closed % (3 - len(parts), k.name, texts(k)) if len(parts) < 3 else ''
-    return '%s-said (cell-%s%s k%s) = rw (quote-node, k%s)%s' % (group, k.tag, quotes, held, proofs, end)
+    return '%s_said (cell_%s%s k%s) = rw (quote_node, k%s)%s' % (group, k.tag, quotes, held, proofs, end)
 
 
 for_both(SAID, 'text of an %s', text, 'quote')
@@ -61,26 +61,26 @@ def _():
     out = []
     for j in JUDGMENTS:
         n = len(j.parts)
-        held = 'no-more'
+        held = 'no_more'
         for i in reversed(range(n)):
-            held = '(and-then h%d %s)' % (i, held)
-        proofs = ', '.join('argument-said h%d' % i for i in range(n))
-        closed = ' (close-%d (spaced (bytes "(" ++ judgment-name %d) (all-texts (arguments %s))))' % (5 - n, j.number, judgment(j))
+            held = '(and_then h%d %s)' % (i, held)
+        proofs = ', '.join('argument_said h%d' % i for i in range(n))
+        closed = ' (close_%d (spaced (bytes "(" ++ judgment_name %d) (all_texts (arguments %s))))' % (5 - n, j.number, judgment(j))
         end = closed if n < 5 else ''
-        out.append('judgment-said %s %s = rw (%s)%s' % (judgment(j), held, proofs, end))
+        out.append('judgment_said %s %s = rw (%s)%s' % (judgment(j), held, proofs, end))
     return out
 
 
 def read_back(k, group):
-    head = '%s-kind k-%s h e =' % (group, k.tag)
+    head = '%s_kind k_%s h e =' % (group, k.tag)
     if not k.parts or is_number(k):
-        return '%s rw (← some-is e) (cell-%s h%s)' % (head, k.tag, ' refl' if k.parts else '')
+        return '%s rw (← some_is e) (cell_%s h%s)' % (head, k.tag, ' refl' if k.parts else '')
     out, e = [head], 'e'
     for s, v, _, n in seen(k):
-        out.append('    let %s = part-then C n %d (%s-at f C) _ %s in' % (v, n, OF[s], e))
-        e = '(%s .rest)' % v
-    held = ''.join(' (%s .lies) (%s _ _ (%s .is))' % (v, 'cell' if OF[s] == group else OF[s] + '-cell f C', v) for s, v, _, n in seen(k))
-    return '\n'.join(out + ['    rw (← some-is %s) (cell-%s h%s)' % (e, k.tag, held)])
+        out.append('    let %s = part_then C n %d (%s_at f C) _ %s in' % (v, n, OF[s], e))
+        e = '%s.rest' % v
+    held = ''.join(' %s.lies (%s _ _ %s.is)' % (v, 'cell' if OF[s] == group else OF[s] + '_cell f C', v) for s, v, _, n in seen(k))
+    return '\n'.join(out + ['    rw (← some_is %s) (cell_%s h%s)' % (e, k.tag, held)])
 
 
 for_both(CELLS, 'cell of an %s', read_back, 'quote')
@@ -88,4 +88,4 @@ for_both(CELLS, 'cell of an %s', read_back, 'quote')
 
 @section(ROWS, 'numbers of arguments')
 def _():
-    return ['at-most-five %s = lit≤ tt' % judgment(j).replace('(', '(J.') for j in JUDGMENTS]
+    return ['at_most_five %s = lit≤ tt' % judgment(j).replace('(', '(J.') for j in JUDGMENTS]

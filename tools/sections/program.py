@@ -66,8 +66,8 @@ def _():
 
 @section('crates/producer/specs/Transforms.antt', 'rules of a kind')
 def _():
-    rules = [(k, '(by-op op %s)' % ' '.join('R.%s·%s' % (t, k.tag) for t in TRANSFORMS)) for k in RULED]
-    return ['rule-of op k = ' + tests(rules, '0')]
+    rules = [(k, '(by_op op %s)' % ' '.join('R.%s_%s' % (t, k.tag) for t in TRANSFORMS)) for k in RULED]
+    return ['rule_of op k = ' + tests(rules, '0')]
 
 
 # ---- Parts: which show in a quote (crates/ast), how many follow a kind's byte (crates/run)
@@ -93,24 +93,24 @@ SHOWS = [
 def _():
     out = []
     for name, says, kinds in SHOWS:
-        out += ['// ' + says, 'pub fn %s(kind: u32) -> bool' % name, '    ensures { λ r. ⌜ r ≡ %s kind ⌝ }' % name.replace('_', '-')]
+        out += ['// ' + says, '#[tactic(auto, unfolding(crate::specs::Cells::%s))]' % name, 'pub fn %s(kind: u32) -> bool' % name]
+        out += ['    ensures { result ≡ %s kind }' % name]
         out += ['{', '    match kind {']
         out += ['        kinds::%s => true,' % k.word.upper() for k in kinds] + ['        _ => false,', '    }', '}', '']
     return out[:-1]
 
 
-def tests(pairs, other):
+def tests(pairs, other, test='eqb k %d'):
     """By the kind's number: nested tests, in the order of the program's match."""
-    head, rest = 'ifb (eqb k %d) %s ' % (pairs[0][0].byte, pairs[0][1]), pairs[1:]
-    return head + ('(%s)' % tests(rest, other) if rest else other)
+    head, rest = 'ifb (%s) %s ' % (test % pairs[0][0].byte, pairs[0][1]), pairs[1:]
+    return head + ('(%s)' % tests(rest, other, test) if rest else other)
 
 
 @section('crates/ast/specs/Cells.antt', 'parts that show')
 def _():
     out = []
     for name, _, kinds in SHOWS:
-        name = name.replace('_', '-')
-        out += ['unfoldable pub %s : ℕ → Bool' % name, '%s k = %s' % (name, tests([(k, 'true') for k in kinds], 'false')), '']
+        out += ['unfoldable pub %s : ℕ → Bool' % name, '%s k = %s' % (name, tests([(k, 'true') for k in kinds], 'false', 'k == %d')), '']
     return out[:-1]
 
 
@@ -124,4 +124,4 @@ def _():
 
 @section('crates/run/specs/Build.antt', 'what follows a kind')
 def _():
-    return ['parts-of k = ' + tests(FOLLOWS, '0')]
+    return ['parts_of k = ' + tests(FOLLOWS, '0')]

@@ -1,4 +1,6 @@
 """crates/rules: the constant tables of the listing, and the lists that they are proved to hold."""
+import textwrap
+
 from .common import ALL, JUDGMENTS, NOTE, RULES, judgment, section, shown, whole
 
 KINDS = 'crates/rules/specs/Kinds.antt'
@@ -26,16 +28,16 @@ def _():
     for k in ALL:
         gap = k.byte - at
         if gap:
-            out.append('no-node ∷' if gap == 1 else 'replicate %d no-node ++' % gap)
+            out.append('no_node ∷' if gap == 1 else 'replicate %d no_node ++' % gap)
         words = [(p, n + 1) for n, p in enumerate(k.parts) if p.shown]
-        out.append('("%s" shows %s) ∷' % (k.name, listed(words, lambda w: '(%s in-word %d)' % (w[0].sort, w[1]))))
+        out.append('("%s" shows %s) ∷' % (k.name, listed(words, lambda w: '(%s in_word %d)' % (w[0].sort, w[1]))))
         at = k.byte + 1
     return out
 
 
 @section(KINDS, 'counts')
 def _():
-    counts = [('judgment-count', len(JUDGMENTS)), ('node-count', ALL[-1].byte + 1)]
+    counts = [('judgment_count', len(JUDGMENTS)), ('node_count', ALL[-1].byte + 1)]
     return '\n\n'.join('abbrev pub %s : ℕ\n%s = %d' % (s, s, n) for s, n in counts).split('\n')
 
 
@@ -45,10 +47,13 @@ def names(constant, what):
 
 
 def numbers(constant, kind, what):
-    """On one line where it fits a hundred bytes, else a line each: rt fmt's layout."""
+    """On one line where it fits a hundred bytes, else on filled lines: rt fmt's layout."""
     head = f'pub const {constant}: [{kind}; {len(what)}] = ['
     line = head + ', '.join(map(str, what)) + '];\n'
-    return line if len(line) <= 101 else head + '\n' + ''.join(f'    {n},\n' for n in what) + '];\n'
+    if len(line) <= 101:
+        return line
+    filled = textwrap.wrap(', '.join(map(str, what)) + ',', 99, initial_indent='    ', subsequent_indent='    ')
+    return '\n'.join([head] + filled) + '\n];\n'
 
 
 def padded(what, width):

@@ -6,12 +6,12 @@ SPECS = 'crates/schemas/specs/'
 CODE, TABLE, FOLLOWS = (SPECS + f + '.antt' for f in ('Code', 'Table', 'Follows'))
 
 # How a part of each sort is written, which letter asks for one when it is read, and what it is when read.
-OF = {'number': 'leaf', 'term': 'of-quote', 'interval': 'of-interval', 'context': 'of-context'}
+OF = {'number': 'leaf', 'term': 'of_quote', 'interval': 'of_interval', 'context': 'of_context'}
 ASKS = {'number': 'n', 'term': 'q', 'interval': 'i', 'context': 'c'}
-READ = {'term': 'read-quote', 'interval': 'read-interval', 'context': 'read-context'}
+READ = {'term': 'read_quote', 'interval': 'read_interval', 'context': 'read_context'}
 
 # Each sort of what stands in a listing: its kinds, the constructor of one, its name.
-SORTS = [('interval', INTERVALS, 'an-interval'), ('quote', TERMS, 'a-quote'), ('context', CONTEXTS, 'a-context')]
+SORTS = [('interval', INTERVALS, 'an_interval'), ('quote', TERMS, 'a_quote'), ('context', CONTEXTS, 'a_context')]
 CONSTRUCTOR = {'interval': lambda k: k.node, 'quote': lambda k: k.name, 'context': lambda k: k.name, 'judgment': lambda j: j.name}
 
 
@@ -24,7 +24,7 @@ def tree(sort, k, parts):
     xs = letters(parts)
     args = [' '.join((OF[p.sort], x)) for p, x in zip(parts, xs)]
     text = '"%s" ! %s' % (k.name, ' · '.join(args + ['end'])) if args else 'named "%s"' % k.name
-    return 'of-%s %s = %s' % (sort, applied(CONSTRUCTOR[sort](k), xs), text)
+    return 'of_%s %s = %s' % (sort, applied(CONSTRUCTOR[sort](k), xs), text)
 
 
 def word(sort, k, parts, made):
@@ -36,7 +36,7 @@ def word(sort, k, parts, made):
 def back(sort, k, parts):
     xs = letters(parts)
     facts = ', '.join('%s %s' % (READ[p.sort], x) for p, x in zip(parts, xs) if p.sort in READ)
-    return 'read-%s %s = %s' % (sort, applied(CONSTRUCTOR[sort](k), xs), 'rw (%s)' % facts if facts else 'refl')
+    return 'read_%s %s = %s' % (sort, applied(CONSTRUCTOR[sort](k), xs), 'rw (%s)' % facts if facts else 'refl')
 
 
 for sort_, kinds_, _ in SORTS:
@@ -63,7 +63,7 @@ def _():
 
 def constructors(rule):
     """The rule's constructors: by its name, and one for each line where it has several."""
-    return ['R.by·' + antt_name(rule) + ('·%d' % n if len(rule.lines) > 1 else '') for n, _ in enumerate(rule.lines)]
+    return ['R.by_' + antt_name(rule) + ('_%d' % n if len(rule.lines) > 1 else '') for n, _ in enumerate(rule.lines)]
 
 
 BY = [c for rule in RULES for c in constructors(rule)]

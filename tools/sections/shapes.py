@@ -5,7 +5,6 @@ from .link import shape
 
 CODE, CELLS, MACHINE = 'crates/ast/src/cells.rt', 'crates/ast/specs/Cells.antt', 'crates/producer/specs/Machine.antt'
 AT, STEPS, OPEN = 'crates/producer/proofs/At.antt', 'crates/producer/proofs/Steps.antt', 'crates/link/specs/Open.antt'
-NAMES = [variant(k) for k in TAKEN] + ['Other']
 
 
 def apart(k):
@@ -31,9 +30,9 @@ def _():
 
 @section(CELLS, 'taken apart')
 def _():
-    tests = ['ifb (eqb (w .kind) %d) %s' % (k.byte, applied(variant(k), ['(w .%s)' % w for w in 'abc'[:len(k.parts)]])) for k in TAKEN]
+    tests = ['ifb (w.kind == %d) %s' % (k.byte, applied(variant(k), ['w.' + w for w in 'abc'[:len(k.parts)]])) for k in TAKEN]
     head = ['    %s%s' % ('(' if n else '', test) for n, test in enumerate(tests)]
-    return ['shape-by w ='] + head[:-1] + [head[-1] + ' Other' + ')' * (len(tests) - 1)]
+    return ['shape_by w ='] + head[:-1] + [head[-1] + ' Other' + ')' * (len(tests) - 1)]
 
 
 # ---- producer: what goes on from a shape, and the laws that the proofs of methods rewrite by
@@ -52,41 +51,28 @@ def _():
     out = []
     for k in TAKEN:
         went = ' '.join(['f'] + vars_of(k))
-        out += ['unfoldable pub on-%s : {A : Type 0} → Shape → (%s) → W A → W A' % (k.word, goes_on(k))]
-        out += each_shape(k, lambda x, own: 'on-%s %s f z = %s' % (k.word, x, went if own else 'z')) + ['']
+        out += ['unfoldable pub on_%s : {A : Type 0} → Shape → (%s) → W A → W A' % (k.word, goes_on(k))]
+        out += each_shape(k, lambda x, own: 'on_%s %s f z = %s' % (k.word, x, went if own else 'z')) + ['']
     for k in TAKEN:
-        out += ['unfoldable pub at-%s : {A : Type 0} → ℕ → (%s) → W A → W A' % (k.word, goes_on(k)),
-                'at-%s i f z = λ w. on-%s (shape-of (w .cells) i) f z w' % (k.word, k.word), '']
+        out += ['unfoldable pub at_%s : {A : Type 0} → ℕ → (%s) → W A → W A' % (k.word, goes_on(k)),
+                'at_%s i f z = λ w. on_%s (shape_of w.cells i) f z w' % (k.word, k.word), '']
     return out[:-1]
 
 
 @section(STEPS, 'shapes')
 def _():
-    names = ' '.join('%s-%s' % (step, k.word) for step in ('at', 'on') for k in TAKEN)
+    names = ' '.join('%s_%s' % (step, k.word) for step in ('at', 'on') for k in TAKEN)
     return ['unfoldable pub shapes : Unit {0}', 'unfolding ' + names, 'shapes = tt']
-
-
-def one_of(place, last):
-    """The place in a choice of several."""
-    return '(inr ' * place + ('e' if place == last else '(inl e)') + ')' * place if place else '(inl e)'
 
 
 @section(AT, 'shapes')
 def _():
     out = []
-    for at, k in enumerate(TAKEN):
-        others = [n for n in range(len(NAMES)) if n != at]
-        choice = 'OneOf (%s[])' % ''.join('%d ∷ ' % n for n in others)
-        name = 'not-' + k.word
-        out += ['pub %s : {A : Type 0} (x : Shape) → %s (enum.tagOf shape.the-type x) → (f : %s) (z : W A) → on-%s x f z ≡ z' % (
-            name, choice, goes_on(k), k.word), 'unfolding on-' + k.word]
-        for other in TAKEN:
-            if other is not k:
-                out.append('%s %s h f z = refl' % (name, apart(other)))
-                continue
-            out += ['%s %s h f z = absurd (none-of h)' % (name, apart(k)), '  where', '    none-of : %s %d → ⊥' % (choice, at)]
-            out += ['    none-of %s = omega arith' % one_of(n, len(others) - 1) for n in range(len(others))]
-        out += ['%s Other h f z = refl' % name, '']
+    for k in TAKEN:
+        name, parts = 'not_' + k.word, ' '.join(vars_of(k))
+        out += ['pub %s : {A : Type 0} (x : Shape) → ((%s : ℕ) → x ≡ %s %s → ⊥) → (f : %s) (z : W A) → on_%s x f z ≡ z' % (
+            name, parts, variant(k), parts, goes_on(k), k.word), 'unfolding on_' + k.word]
+        out += each_shape(k, lambda x, own: '%s %s h f z = %s' % (name, x, 'absurd (h %s refl)' % parts if own else 'refl')) + ['']
     return out[:-1]
 
 
@@ -94,7 +80,7 @@ def _():
 
 @section(OPEN, 'no shape')
 def _():
-    return ['no-%s : %s t ≡ none' % (one_taken(k), k.taken) for k in TAKEN]
+    return ['no_%s : %s t ≡ none' % (one_taken(k), k.taken) for k in TAKEN]
 
 
 @section(OPEN, 'shapes')
@@ -103,64 +89,64 @@ def _():
     for k in TAKEN:
         form = applied('form.' + variant(k), vars_of(k))
         if is_number(k):
-            out.append('p-%s : {n : ℕ} → Parts xs %s (%s n)' % (k.word, form, k.node))
+            out.append('p_%s : {n : ℕ} → Parts xs %s (%s n)' % (k.word, form, k.node))
             continue
-        held = ''.join('Cell %s (%s %s′) xs → ' % (v, p.sort, v) for p, v in parts_of(k))
+        held = ''.join("Cell %s (%s %s') xs → " % (v, p.sort, v) for p, v in parts_of(k))
         names = ' '.join(vars_of(k))
-        primed = ' '.join(v + '′' for v in vars_of(k))
-        out.append('p-%s : {%s : ℕ} {%s : Term} → %sParts xs %s (%s %s)' % (k.word, names, primed, held, form, k.node, primed))
+        primed = ' '.join(v + "'" for v in vars_of(k))
+        out.append('p_%s : {%s : ℕ} {%s : Term} → %sParts xs %s (%s %s)' % (k.word, names, primed, held, form, k.node, primed))
     return out
 
 
 @section(OPEN, 'kinds of cells')
 def _():
-    return ['kind-shown %s = refl' % shape(k) for k in TERMS]
+    return ['kind_shown %s = refl' % shape(k) for k in TERMS]
 
 
 @section(OPEN, 'kinds of bytes')
 def _():
-    return ['at-byte k-%s = refl' % k.tag for k in TERMS]
+    return ['at_byte k_%s = refl' % k.tag for k in TERMS]
 
 
 @section(OPEN, 'which shape')
 def _():
-    none = 'p-else (record { %s })' % '; '.join('no-%s = refl' % one_taken(k) for k in TAKEN)
-    return ['parted q %s = %s' % (shape(k), ' '.join(['p-' + k.word] + list('xyz'[:len(cells(k.parts))])) if k.taken else none) for k in TERMS]
+    none = 'p_else (record { %s })' % '; '.join('no_%s = refl' % one_taken(k) for k in TAKEN)
+    return ['parted q %s = %s' % (shape(k), ' '.join(['p_' + k.word] + list('xyz'[:len(cells(k.parts))])) if k.taken else none) for k in TERMS]
 
 
 TAKING = '''\
 module _ {A B : Type 0} {o : Before} {xs : List Thing} {Q : B → A → List Thing → Type 0} where
   taken : {i : ℕ} {t : Term} {d : M A} (f : Form → W B) → Cell i (term t) xs → ((p : Form) → Parts xs p t → Matches o xs (f p) d Q) → \
-Matches o xs (λ w. f (shape-of (w .cells) i) w) d Q
-  unfolding shape-of
-  taken f c k = record { holds = λ w s e h. let r = read-cell tt c e h in \
-rw (r .words) (k (shape-by (cell-by (r .kind) (r .a) (r .b) (r .c) (r .low))) (parted (r .low) (r .shape)) .holds w s e h) }
+Matches o xs (λ w. f (shape_of w.cells i) w) d Q
+  unfolding shape_of
+  taken f c k = record { holds = λ w s e h. let r = read_cell tt c e h in \
+rw r.words ((k (shape_by (cell_by r.kind r.a r.b r.c r.low)) (parted r.low r.shape)).holds w s e h) }
 '''
 
 
 def taking(k):
     """That a term is taken apart as this kind, or not."""
-    vs, primed = vars_of(k), [v + '′' for v in vars_of(k)]
+    vs, primed = vars_of(k), [v + "'" for v in vars_of(k)]
     if is_number(k):
         given, made = '(n : ℕ) → t ≡ %s n → ' % k.node, 'n'
     else:
-        held = ''.join('Cell %s (%s %s′) xs → ' % (v, p.sort, v) for p, v in parts_of(k))
+        held = ''.join("Cell %s (%s %s') xs → " % (v, p.sort, v) for p, v in parts_of(k))
         given = '(%s : ℕ) (%s : Term) → t ≡ %s %s → %s' % (' '.join(vs), ' '.join(primed), k.node, ' '.join(primed), held)
         made = '(%s)' % ', '.join(primed)
     of = ' × '.join(NODE_TYPES[p.sort] for p in k.parts)
     goes = 'Matches o xs (%s) (g %s) Q' % (' '.join(['f'] + vs), made)
-    name, on = 'at-' + k.word, 'C.on-' + k.word
+    name, on = 'at_' + k.word, 'C.on_' + k.word
     out = ['pub %s : {i : ℕ} {t : Term} {f : %s} {z : W B} (g : %s → M A) (y : M A) → Cell i (term t) xs → (%s%s) → Matches o xs z y Q → '
            % (name, goes_on(k).replace('A', 'B'), of, given, goes) + 'Matches o xs (C.%s i f z) (from %s t get g or y) Q' % (name, k.taken),
-           'unfolding C.%s %s from_get_or_' % (name, on),
+           'unfolding C.%s %s from◌get◌or◌' % (name, on),
            '%s {t = t} {f = f} {z = z} g y h k m = taken (λ p. %s p f z) h λ _ s. go refl s' % (name, on),
            '  where',
            '    go : {p : Form} {u : Term} → t ≡ u → Parts xs p u → Matches o xs (%s p f z) (from %s u get g or y) Q' % (on, k.taken)]
     holes = ['_'] * (1 if is_number(k) else 2 * len(vs))
     for other in TAKEN:
         parts = list('abc'[:len(cells(other.parts))])
-        out.append('    go q %s = %s' % (applied('p-' + other.word, parts), ' '.join(['k'] + holes + ['q'] + parts) if other is k else 'm'))
-    return out + ['    go q (p-else e) = rw (e .no-%s) m' % one_taken(k), '']
+        out.append('    go q %s = %s' % (applied('p_' + other.word, parts), ' '.join(['k'] + holes + ['q'] + parts) if other is k else 'm'))
+    return out + ['    go q (p_else e) = rw e.no_%s m' % one_taken(k), '']
 
 
 @section(OPEN, 'taken apart')

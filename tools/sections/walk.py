@@ -1,6 +1,6 @@
 """crates/walk: the syntax, judgments, rules' numbers and names, the reader's tables, limits, the cells of what is counted."""
 from .common import (CALLS, INTERVALS, JUDGMENTS, NODE_TYPES, NOTE, QUOTE_TYPES, RULED, RULES, TAKEN, TERMS, TRANSFORMS, antt_name, arrows,
-                     by_byte, is_number, judgment, nested, node, one_taken, parts_of, refusals, section, shown, vars_of, whole)
+                     by_byte, is_number, judgment, nested, node, one_taken, parts_of, refusals, section, shown, snake, vars_of, whole)
 
 SPECS = 'crates/walk/specs/'
 SYNTAX, JUDGMENT, READER, SIZES, STATE = (SPECS + f + '.antt' for f in ('Syntax', 'Judgment', 'Reader', 'Limits', 'State'))
@@ -32,7 +32,7 @@ def _():
 
 # ---- Judgment
 
-ARGUMENT = {'number': 'number', 'term': 'of-quote', 'interval': 'of-interval', 'context': 'of-context'}
+ARGUMENT = {'number': 'number', 'term': 'of_quote', 'interval': 'of_interval', 'context': 'of_context'}
 
 
 @section(JUDGMENT, 'judgments')
@@ -58,10 +58,10 @@ def _():
 @whole(SPECS + 'Refusal.antt')
 def _():
     def each(group):
-        return '\n'.join('-- %s\nabbrev pub %s : ℕ\n%s = %d\n' % (because, name, name, number) for number, name, because in group)
+        return '\n'.join('-- %s\nabbrev pub %s : ℕ\n%s = %d\n' % (because, snake(name), snake(name), number) for number, name, because in group)
     return '''-- The refusals: a name for each number. 0 is no refusal: what has this number is accepted.
 -- %s
-use Prim.Native.Nat.{ℕ}
+use Rattle.std.specs.Prelude.{ℕ}
 
 %s''' % (NOTE, '\n'.join('-- %s\n\n%s' % (of, each(group)) for of, group in refusals()))
 
@@ -73,13 +73,10 @@ def _():
     number = '\n'.join('abbrev pub %s : ℕ\n%s = %d\n' % (antt_name(r), antt_name(r), r.number) for r in RULES)
     judgments = '\n'.join('abbrev %s : ℕ\n%s = %d\n' % (j.name, j.name, j.number) for j in JUDGMENTS)
     table = '\n'.join('    (%s named "%s" concludes %s) ∷' % (antt_name(r), r.name, r.judgment) for r in RULES)
-    return f'''-- The rules by number, in the order of docs/FORMAT.md: `eq·p1` is its eq.p1; with their names and what each concludes.
+    return f'''-- The rules by number, in the order of docs/FORMAT.md: `eq_p1` is its eq.p1; with their names and what each concludes.
 -- {NOTE}
-use Prim.Native.Nat.{{ℕ, suc}}
+use Rattle.std.specs.Prelude.{{ℕ, suc, ◌≡◌, refl, List, [], ◌∷◌, get_or}}
 use Prim.Native.String.{{String}}
-use mathlib.Core.Path.{{_≡_, refl}}
-use mathlib.Core.List.{{List, [], _∷_}}
-use lib.ListN.{{getD}}
 
 {number}
 -- The judgments by number, as Judgment's `kind` has them.
@@ -90,9 +87,9 @@ pub record Named : Type 0 where
   pub name : String
   pub kind : ℕ
 
-infix 50 _named_concludes_
-abbrev _named_concludes_ : ℕ → String → ℕ → Named
-_named_concludes_ n s k = record {{ number = n; name = s; kind = k }}
+infix 50 ◌named◌concludes◌
+abbrev ◌named◌concludes◌ : ℕ → String → ℕ → Named
+◌named◌concludes◌ n s k = record {{ number = n; name = s; kind = k }}
 
 abbrev pub rules : List Named
 rules =
@@ -100,27 +97,27 @@ rules =
     []
 
 -- How many there are.
-abbrev pub rule-count : ℕ
-rule-count = {len(RULES)}
+abbrev pub rule_count : ℕ
+rule_count = {len(RULES)}
 
 -- A number that is no rule has an empty name, and concludes a kind that no judgment has.
-abbrev pub no-rule : Named
-no-rule = rule-count named "" concludes 255
+abbrev pub no_rule : Named
+no_rule = rule_count named "" concludes 255
 
-unfoldable pub kind-of : ℕ → ℕ
-kind-of n = getD rules n no-rule .kind
+unfoldable pub kind_of : ℕ → ℕ
+kind_of n = (get_or rules n no_rule).kind
 
 -- The table has the rules in the order of their numbers, each once.
 abbrev numbers : List Named → List ℕ
 numbers [] = []
-numbers (r ∷ rs) = r .number ∷ numbers rs
+numbers (r ∷ rs) = r.number ∷ numbers rs
 
 abbrev numbered : ℕ → ℕ → List ℕ
 numbered n ℕ.zero = []
 numbered n (ℕ.suc k) = n ∷ numbered (suc n) k
 
-pub in-order : numbers rules ≡ numbered 0 rule-count
-in-order = refl
+pub in_order : numbers rules ≡ numbered 0 rule_count
+in_order = refl
 '''
 
 
@@ -131,7 +128,7 @@ def _():
     def seen(k):
         number = 'n' if is_number(k) else '0'
         terms = [v if p.sort == 'term' else 'Nat' for p, v in parts_of(k)]
-        return ' '.join(['seen k-' + k.tag, number] + (terms + ['Nat'] * 3)[:3])
+        return ' '.join(['seen k_' + k.tag, number] + (terms + ['Nat'] * 3)[:3])
     return ['view %s = %s' % (node(k), seen(k)) for k in TERMS]
 
 
@@ -139,8 +136,8 @@ def _():
 def _():
     out = []
     for k in RULED:
-        numbers = ' '.join('R.%s·%s' % (t, k.tag) for t in TRANSFORMS)
-        out += ['abbrev pub %s-rule : Op → ℕ' % k.tag, '%s-rule op = by-op op %s' % (k.tag, numbers), '']
+        numbers = ' '.join('R.%s_%s' % (t, k.tag) for t in TRANSFORMS)
+        out += ['abbrev pub %s_rule : Op → ℕ' % k.tag, '%s_rule op = by_op op %s' % (k.tag, numbers), '']
     return out[:-1]
 
 
@@ -149,7 +146,7 @@ PLACES = ['one', 'two', 'three']
 
 def seen_parts(k, view):
     """The number, or the parts by their places."""
-    return [view + ' .number'] if is_number(k) else [view + ' .' + place for place in PLACES[:len(k.parts)]]
+    return [view + '.number'] if is_number(k) else [view + '.' + place for place in PLACES[:len(k.parts)]]
 
 
 def taken_type(k):
@@ -160,9 +157,10 @@ def taken_type(k):
 def _():
     out = []
     for k in TAKEN:
-        parts = ', '.join(seen_parts(k, 'view t'))
+        parts = ', '.join(seen_parts(k, '(view t)'))
+        parts = parts if len(seen_parts(k, '')) == 1 else '(%s)' % parts
         out += ['abbrev pub %s : Term → Option %s' % (k.taken, taken_type(k) if len(k.parts) == 1 else '(%s)' % taken_type(k)),
-                '%s t = of-kind k-%s (view t) (%s)' % (k.taken, k.tag, parts), '']
+                '%s t = of_kind k_%s (view t) %s' % (k.taken, k.tag, parts), '']
     return out[:-1]
 
 
@@ -172,8 +170,8 @@ PARTS = SPECS + 'Sound/Parts.antt'
 @section(PARTS, 'what a view says')
 def _():
     def says(k):
-        return 't ≡ ' + ' '.join([k.node] + ['(%s)' % p for p in seen_parts(k, 'v')]) if k.taken else 'Unit {0}'
-    return ['Whole k-%s v t = %s' % (k.tag, says(k)) for k in TERMS]
+        return 't ≡ ' + ' '.join([k.node] + seen_parts(k, 'v')) if k.taken else 'Unit {0}'
+    return ['Whole k_%s v t = %s' % (k.tag, says(k)) for k in TERMS]
 
 
 @section(PARTS, 'that it is so')
@@ -185,11 +183,11 @@ def _():
 def _():
     out = []
     for k in TAKEN:
-        name, of = one_taken(k) + '-is', taken_type(k)
-        parts = ['m'] if len(k.parts) == 1 else ['(m .%d)' % n for n in range(len(k.parts))]
+        name, of = one_taken(k) + '_is', taken_type(k)
+        parts = ['m'] if len(k.parts) == 1 else ['m.%d' % n for n in range(len(k.parts))]
         made = ' '.join([k.node] + parts)
         out += ['pub %s : (t : Term) (m : %s) → %s t ≡ some m → t ≡ %s' % (name, of, k.taken, made),
-                '%s t m e = let x = is-of k-%s t _ m e in x .0 ∙ ap (λ (m : %s). %s) (x .1)' % (name, k.tag, of, made), '']
+                '%s t m e = let x = is_of k_%s t _ m e in x.0 ∙ ap (λ (m : %s). %s) x.1' % (name, k.tag, of, made), '']
     return out[:-1]
 
 
@@ -197,17 +195,17 @@ def _():
 def _():
     return [
         'pub data Kind : Type 0 where',
-        '  %s : Kind' % ' '.join('k-' + k.tag for k in TERMS),
-        '  deriving Discrete as Kind-discrete',
+        '  %s : Kind' % ' '.join('k_' + k.tag for k in TERMS),
+        '  deriving Discrete as KindDiscrete',
         '',
         'pub data IKind : Type 0 where',
-        '  %s : IKind' % ' '.join('k-' + k.tag for k in INTERVALS),
+        '  %s : IKind' % ' '.join('k_' + k.tag for k in INTERVALS),
         '',
         'abbrev pub kinds : List (Option Kind)',
-        'kinds = ' + by_byte(TERMS, lambda k: 'some k-' + k.tag, 'none', '[]'),
+        'kinds = ' + by_byte(TERMS, lambda k: 'some k_' + k.tag, 'none', '[]'),
         '',
         'abbrev pub ikinds : List (Option IKind)',
-        'ikinds = ' + by_byte(INTERVALS, lambda k: 'some k-' + k.tag, 'none', '[]'),
+        'ikinds = ' + by_byte(INTERVALS, lambda k: 'some k_' + k.tag, 'none', '[]'),
     ]
 
 
@@ -215,17 +213,17 @@ def _():
 def _():
     return [
         'pub data Code : Type 0 where',
-        '  %s : Code' % ' '.join('c-' + c.name for c in CALLS),
-        '  deriving Discrete as Code-discrete',
+        '  %s : Code' % ' '.join('c_' + c.name for c in CALLS),
+        '  deriving Discrete as CodeDiscrete',
         '',
         'abbrev pub codes : List (Option Code)',
-        'codes = %s[]' % ''.join('some c-%s ∷ ' % c.name for c in CALLS),
+        'codes = %s[]' % ''.join('some c_%s ∷ ' % c.name for c in CALLS),
         '',
-        'abbrev pub terms-of : Code → ℕ',
-    ] + ['terms-of c-%s = %d' % (c.name, len(c.terms)) for c in CALLS]
+        'abbrev pub terms_of : Code → ℕ',
+    ] + ['terms_of c_%s = %d' % (c.name, len(c.terms)) for c in CALLS]
 
 
-READS = {'number': 'byte', 'term': 'read-term f', 'interval': 'read-interval f'}
+READS = {'number': 'byte', 'term': 'read_term f', 'interval': 'read_interval f'}
 
 
 def reading(k):
@@ -234,43 +232,43 @@ def reading(k):
 
 @section(READER, 'reading an interval')
 def _():
-    return ['| k-%s ↦ %s' % (k.tag, reading(k)) for k in INTERVALS]
+    return ['| k_%s ↦ %s' % (k.tag, reading(k)) for k in INTERVALS]
 
 
 @section(READER, 'reading a term')
 def _():
-    return ['| k-%s ↦ %s' % (k.tag, reading(k)) for k in TERMS]
+    return ['| k_%s ↦ %s' % (k.tag, reading(k)) for k in TERMS]
 
 
 # ---- Limits
 
 def size_after(ps):
     """The size of these parts, one after the other, from the nodes before them."""
-    part = 'size-%s %s (depth + 1)' % (ps[0][0].sort, ps[0][1])
-    return '(%s)' % part if len(ps) == 1 else 'λ n. size-on (%s n) %s' % (part, size_after(ps[1:]))
+    part = 'size_%s %s (depth + 1)' % (ps[0][0].sort, ps[0][1])
+    return '(%s)' % part if len(ps) == 1 else 'λ n. size_on (%s n) %s' % (part, size_after(ps[1:]))
 
 
 def size(k):
     if not k.parts or is_number(k):
         return 'node depth nodes ' + (vars_of(k) or ['0'])[0]
-    return 'size-on (node depth nodes 0) ' + size_after(parts_of(k))
+    return 'size_on (node depth nodes 0) ' + size_after(parts_of(k))
 
 
 @section(SIZES, 'size of an interval')
 def _():
-    return ['size-interval %s depth nodes = %s' % (node(k), size(k)) for k in INTERVALS]
+    return ['size_interval %s depth nodes = %s' % (node(k), size(k)) for k in INTERVALS]
 
 
 @section(SIZES, 'size of a term')
 def _():
-    return ['size-term %s depth nodes = %s' % (node(k), size(k)) for k in TERMS]
+    return ['size_term %s depth nodes = %s' % (node(k), size(k)) for k in TERMS]
 
 
 # ---- State
 
 def things(k, sort):
-    parts = ''.join('of-%s %s ++ ' % (p.sort, v) for p, v in parts_of(k) if p.sort != 'number')
-    return 'of-%s %s = %s%s %s ∷ []' % (sort, node(k), parts, sort, node(k))
+    parts = ''.join('of_%s %s ++ ' % (p.sort, v) for p, v in parts_of(k) if p.sort != 'number')
+    return 'of_%s %s = %s%s %s ∷ []' % (sort, node(k), parts, sort, node(k))
 
 
 @section(STATE, 'parts of an interval')

@@ -5,38 +5,45 @@
 // Stack: 3.7 MB for the tables and 3.6 MB for 4,096 levels of nesting.
 #![tactic(auto)]
 
-use libc::STDOUT_FILENO;
+use std::io;
 
-fn say(s: &[u8]) {
-    io::write_all(STDOUT_FILENO, s);
+fn say(rt: &impl Print, s: &[u8]) -> io::Result<()> {
+    rt.write_all(s)
 }
 
-fn shown(n: u32) {
-    io::print_decimal(STDOUT_FILENO, n as u64);
-    say(b" ");
+fn shown(rt: &impl Print, n: u32) -> io::Result<()> {
+    rt.print(n)?;
+    say(rt, b" ")
 }
 
 // A word of the answers.
-fn answer(answers: &[u32], i: usize) {
+fn answer(rt: &impl Print, answers: &[u32], i: usize) -> io::Result<()> {
     if i < answers.len() {
-        shown(answers[i]);
+        shown(rt, answers[i])?;
     }
+    Ok(())
 }
 
-fn play(bytes: &[u8], rows: &mut [u32], cells: &mut [u32], answers: &mut [u32]) {
+fn play(
+    rt: &impl Print,
+    bytes: &[u8],
+    rows: &mut [u32],
+    cells: &mut [u32],
+    answers: &mut [u32],
+) -> io::Result<()> {
     let ran = run::entry::run(bytes, rows, cells, answers);
-    say(b"number place calls rows cells\n");
-    shown(ran.number);
-    shown(ran.place);
-    shown(ran.calls);
-    shown(ran.rows);
-    shown(ran.cells);
-    say(b"\nnumber row result deepest\n");
-    answer(answers, 0);
-    answer(answers, 1);
-    answer(answers, 2);
-    answer(answers, 3);
-    say(b"\n");
+    say(rt, b"number place calls rows cells\n")?;
+    shown(rt, ran.number)?;
+    shown(rt, ran.place)?;
+    shown(rt, ran.calls)?;
+    shown(rt, ran.rows)?;
+    shown(rt, ran.cells)?;
+    say(rt, b"\nnumber row result deepest\n")?;
+    answer(rt, answers, 0)?;
+    answer(rt, answers, 1)?;
+    answer(rt, answers, 2)?;
+    answer(rt, answers, 3)?;
+    say(rt, b"\n")
 }
 
 // A table in a function of its own: the checker does not take apart what it is full of.
@@ -44,11 +51,11 @@ fn table() -> [u32; 777624] {
     [0u32; 777624]
 }
 
-fn main() {
+fn main(rt: HostRuntime) -> io::Result<()> {
     let mut input = [0u8; 2048];
-    let n = io::read_full(0, &mut input);
+    let n = stdio::read_full(&rt, &mut input)?;
     let mut rows = table();
     let mut cells = [0u32; 157784];
     let mut answers = [0u32; 4];
-    play(&input[..n], &mut rows, &mut cells, &mut answers);
+    play(&rt, &input[..n], &mut rows, &mut cells, &mut answers)
 }

@@ -10,9 +10,9 @@
 // tools/edges.py meets the limit 4,096 too, and takes 3.6 MB for that: it stands here with the limit 1,024, which takes 1.0 MB.
 #![tactic(auto)]
 
-use libc::STDOUT_FILENO;
 use lines::repeats;
 use ran::Ran;
+use std::io;
 use text::Piece;
 
 // The word that slices hold before a run.
@@ -33,13 +33,13 @@ struct Read {
     next: usize,
 }
 
-fn say(s: &[u8]) {
-    io::write_all(STDOUT_FILENO, s);
+fn say(rt: &impl Print, s: &[u8]) -> io::Result<()> {
+    rt.write_all(s)
 }
 
-fn shown(n: usize) {
-    say(b" ");
-    io::print_decimal(STDOUT_FILENO, n as u64);
+fn shown(rt: &impl Print, n: usize) -> io::Result<()> {
+    say(rt, b" ")?;
+    rt.print(n)
 }
 
 // The byte at an offset, and the end of a line past the end.
@@ -160,18 +160,25 @@ fn stay(s: &[u32], from: usize) -> bool {
 }
 
 // Prints whether the words past the used ones stayed.
-fn past(s: &[u32], used: usize) {
+fn past(rt: &impl Print, s: &[u32], used: usize) -> io::Result<()> {
     if stay(s, used) {
-        say(b" stay");
+        say(rt, b" stay")
     } else {
-        say(b" changed");
+        say(rt, b" changed")
     }
 }
 
 // One call's line, as the listing has it.
-fn call(run: Ran, codes: &[u8], answers: &[u32], cells: &[u32], i: u32) {
+fn call(
+    rt: &impl Print,
+    run: Ran,
+    codes: &[u8],
+    answers: &[u32],
+    cells: &[u32],
+    i: u32,
+) -> io::Result<()> {
     let mut buf = [0u8; 4096];
-    say(b"call ");
+    say(rt, b"call ")?;
     let seen = text::window(
         Piece::CallLine(i),
         run,
@@ -183,61 +190,82 @@ fn call(run: Ran, codes: &[u8], answers: &[u32], cells: &[u32], i: u32) {
         0,
         &mut buf,
     );
-    say(&buf[..seen.put]);
+    say(rt, &buf[..seen.put])
 }
 
 // The lines of the last eight calls.
-fn calls(run: Ran, codes: &[u8], answers: &[u32], cells: &[u32]) {
+fn calls(
+    rt: &impl Print,
+    run: Ran,
+    codes: &[u8],
+    answers: &[u32],
+    cells: &[u32],
+) -> io::Result<()> {
     let most = run.calls;
     let mut i = if most < 8 { 0 } else { most - 8 };
     while i < most {
-        call(run, codes, answers, cells, i);
+        call(rt, run, codes, answers, cells, i)?;
         i += 1;
     }
+    Ok(())
 }
 
 // What a run answered, and whether the words past those that it used stayed: of the whole arrays, of which it was lent a part.
-fn report(run: Ran, codes: &[u8], rows: &[u32], cells: &[u32], answers: &[u32]) {
-    say(b"run");
-    shown(run.number as usize);
-    shown(run.place as usize);
-    shown(run.calls as usize);
-    shown(run.rows as usize);
-    shown(run.cells as usize);
-    shown(repeats::repeats(codes, answers, run.calls) as usize);
-    past(rows, (run.rows as usize) * 24);
-    past(cells, (run.cells as usize) * 8);
-    past(answers, (run.calls as usize) * 4);
-    say(b"\n");
-    calls(run, codes, answers, cells);
+fn report(
+    rt: &impl Print,
+    run: Ran,
+    codes: &[u8],
+    rows: &[u32],
+    cells: &[u32],
+    answers: &[u32],
+) -> io::Result<()> {
+    say(rt, b"run")?;
+    shown(rt, run.number as usize)?;
+    shown(rt, run.place as usize)?;
+    shown(rt, run.calls as usize)?;
+    shown(rt, run.rows as usize)?;
+    shown(rt, run.cells as usize)?;
+    shown(rt, repeats::repeats(codes, answers, run.calls) as usize)?;
+    past(rt, rows, (run.rows as usize) * 24)?;
+    past(rt, cells, (run.cells as usize) * 8)?;
+    past(rt, answers, (run.calls as usize) * 4)?;
+    say(rt, b"\n")?;
+    calls(rt, run, codes, answers, cells)
 }
 
 // Plays a run, with so many words of each slice.
-fn play(lent: Lent, bytes: &[u8], rows: &mut [u32], cells: &mut [u32], answers: &mut [u32]) {
+fn play(
+    rt: &impl Print,
+    lent: Lent,
+    bytes: &[u8],
+    rows: &mut [u32],
+    cells: &mut [u32],
+    answers: &mut [u32],
+) -> io::Result<()> {
     let mut codes = [0u8; 21846];
     let r = lent.rows;
     let c = lent.cells;
     let a = lent.answers;
     if rows.len() < r {
-        return;
+        return Ok(());
     }
     if cells.len() < c {
-        return;
+        return Ok(());
     }
     if answers.len() < a {
-        return;
+        return Ok(());
     }
     let ran = run::entry::run(bytes, &mut rows[..r], &mut cells[..c], &mut answers[..a]);
     syntax::call_codes(bytes, &mut codes);
-    report(ran, &codes, rows, cells, answers);
+    report(rt, ran, &codes, rows, cells, answers)
 }
 
 // The tables of a case, of one of two sizes.
-fn in_small(lent: Lent, bytes: &[u8]) {
+fn in_small(rt: &impl Print, lent: Lent, bytes: &[u8]) -> io::Result<()> {
     let mut rows = [FILL; 24576];
     let mut cells = [FILL; 16384];
     let mut answers = [FILL; 87384];
-    play(lent, bytes, &mut rows, &mut cells, &mut answers);
+    play(rt, lent, bytes, &mut rows, &mut cells, &mut answers)
 }
 
 // An array of so many words comes from a function: a proof that has it written out would have that many steps.
@@ -245,36 +273,36 @@ fn large_rows() -> [u32; 1200048] {
     [FILL; 1200048]
 }
 
-fn in_large(lent: Lent, bytes: &[u8]) {
+fn in_large(rt: &impl Print, lent: Lent, bytes: &[u8]) -> io::Result<()> {
     let mut rows = large_rows();
     let mut cells = [FILL; 305152];
     let mut answers = [FILL; 2048];
-    play(lent, bytes, &mut rows, &mut cells, &mut answers);
+    play(rt, lent, bytes, &mut rows, &mut cells, &mut answers)
 }
 
-fn place(lent: Lent, bytes: &[u8]) {
+fn place(rt: &impl Print, lent: Lent, bytes: &[u8]) -> io::Result<()> {
     if lent.rows <= 24576 {
-        in_small(lent, bytes);
-        return;
+        return in_small(rt, lent, bytes);
     }
-    in_large(lent, bytes);
+    in_large(rt, lent, bytes)
 }
 
 // Prints a case's name.
-fn name(s: &[u8], from: usize, end: usize) {
+fn name(rt: &impl Print, s: &[u8], from: usize, end: usize) -> io::Result<()> {
     if end <= s.len() {
         if from <= end {
-            say(&s[from..end]);
-            say(b"\n");
+            say(rt, &s[from..end])?;
+            say(rt, b"\n")?;
         }
     }
+    Ok(())
 }
 
 // The case whose name starts at an offset.
-fn case(s: &[u8], from: usize) {
+fn case(rt: &impl Print, s: &[u8], from: usize) -> io::Result<()> {
     let mut out = [0u8; 65540];
     let end = find(s, from, 32);
-    name(s, from, end);
+    name(rt, s, from, end)?;
     let rows = number(s, after(end));
     let cells = number(s, after(rows.next));
     let answers = number(s, after(cells.next));
@@ -285,36 +313,38 @@ fn case(s: &[u8], from: usize) {
         answers: answers.value,
     };
     if n <= out.len() {
-        place(lent, &out[..n]);
+        place(rt, lent, &out[..n])?;
     }
+    Ok(())
 }
 
 // One line: a case, a comment or nothing; the offset of the next line.
-fn line(s: &[u8], from: usize) -> usize {
+fn line(rt: &impl Print, s: &[u8], from: usize) -> io::Result<usize> {
     let b = byte(s, from);
     if b != 35 {
         if b != 10 {
-            case(s, from);
+            case(rt, s, from)?;
         }
     }
-    after(find(s, from, 10))
+    Ok(after(find(s, from, 10)))
 }
 
 // All lines, 65,536 at most.
-fn all(s: &[u8]) {
+fn all(rt: &impl Print, s: &[u8]) -> io::Result<()> {
     let mut at: usize = 0;
     let mut turns: usize = 65536;
     while 0 < turns {
         if s.len() <= at {
-            return;
+            return Ok(());
         }
-        at = line(s, at);
+        at = line(rt, s, at)?;
         turns -= 1;
     }
+    Ok(())
 }
 
-fn main() {
+fn main(rt: HostRuntime) -> io::Result<()> {
     let mut input = [0u8; 65536];
-    let n = io::read_full(0, &mut input);
-    all(&input[..n]);
+    let n = stdio::read_full(&rt, &mut input)?;
+    all(&rt, &input[..n])
 }

@@ -1,4 +1,4 @@
-// The library for C and Rust: one function.
+// What the library for C and Rust is: one function. `exports_c` hands it to them.
 #![tactic(auto)]
 
 ghost use Rattle.exports.specs.Exports.{Exports};
@@ -6,10 +6,9 @@ ghost use Rattle.exports.specs.Exports.{Exports};
 use ast::words::put;
 use run::entry::run as play;
 
-// Plays a run and writes number, place, calls, rows and cells to the first five words of `result`; does nothing at all where that is
-// shorter. A slice goes over as a pointer and a length.
-#[unsafe(no_mangle)]
-pub extern "C" fn run_derivations(
+// Plays a run and writes number, place, calls, rows and cells to the first five words of `res`; does nothing at all where that is
+// shorter.
+pub fn run_derivations(
     run: &[u8],
     rows: &mut [u32],
     cells: &mut [u32],

@@ -4,12 +4,13 @@
 
 ghost use Rattle.std.specs.Prelude.{◌≤◌};
 
-use libc::STDOUT_FILENO;
 use ran::Ran;
+use std::io;
 use text::Piece;
 
 // The part of the listing from `from` on that fits the buffer; whether there is more.
 fn put(
+    rt: &impl Print,
     run: Ran,
     codes: &[u8],
     answers: &[u32],
@@ -17,7 +18,7 @@ fn put(
     cells: &[u32],
     from: usize,
     buf: &mut [u8],
-) -> bool {
+) -> io::Result<bool> {
     let seen = text::window(
         Piece::Listing,
         run,
@@ -29,12 +30,13 @@ fn put(
         1,
         buf,
     );
-    io::write_all(STDOUT_FILENO, &buf[..seen.put]);
-    seen.left != 0
+    rt.write_all(&buf[..seen.put])?;
+    Ok(seen.left != 0)
 }
 
 // A window of `size` bytes.
 fn turn(
+    rt: &impl Print,
     run: Ran,
     codes: &[u8],
     answers: &[u32],
@@ -42,34 +44,42 @@ fn turn(
     cells: &[u32],
     from: usize,
     size: usize,
-) -> bool
+) -> io::Result<bool>
     requires { size ≤ 65536 }
 {
     let mut buf = [0u8; 65536];
-    put(run, codes, answers, rows, cells, from, &mut buf[..size])
+    put(rt, run, codes, answers, rows, cells, from, &mut buf[..size])
 }
 
-fn show(run: Ran, codes: &[u8], answers: &[u32], rows: &[u32], cells: &[u32]) {
+fn show(
+    rt: &impl Print,
+    run: Ran,
+    codes: &[u8],
+    answers: &[u32],
+    rows: &[u32],
+    cells: &[u32],
+) -> io::Result<()> {
     let mut from: usize = 0;
     let mut size: usize = 64;
     while from < 9223372036854775808 {
-        if turn(run, codes, answers, rows, cells, from, size) {
+        if turn(rt, run, codes, answers, rows, cells, from, size)? {
             from += size;
             size = if size < 32768 { 2 * size } else { 65536 };
         } else {
-            return;
+            return Ok(());
         }
     }
+    Ok(())
 }
 
-fn main() {
+fn main(rt: HostRuntime) -> io::Result<()> {
     let mut input = [0u8; 65537];
-    let n = io::read_full(0, &mut input);
+    let n = stdio::read_full(&rt, &mut input)?;
     let mut rows = [0u32; 16384];
     let mut cells = [0u32; 16384];
     let mut answers = [0u32; 16384];
     let mut codes = [0u8; 4096];
     let ran = run::entry::run(&input[..n], &mut rows, &mut cells, &mut answers);
     syntax::call_codes(&input[..n], &mut codes);
-    show(ran, &codes, &answers, &rows, &cells);
+    show(&rt, ran, &codes, &answers, &rows, &cells)
 }

@@ -4,10 +4,10 @@
 
 use ast::cells::{Found, put_cell};
 use ast::words::put;
-use libc::STDOUT_FILENO;
 use producer::rows::{cite0, find_row, put_row, row_start};
 use search::index::index_rows;
 use search::plain::{Wanted, last_row};
+use std::io;
 
 // How many cells there are.
 const CELLS: u32 = 14;
@@ -94,49 +94,61 @@ fn wanted(kind: u32, a: u32, b: u32, c: u32, d: u32, e: u32) -> Wanted {
     }
 }
 
-fn print(found: Found) {
+fn print(rt: &impl Print, found: Found) -> io::Result<()> {
     match found {
-        Found::At(i) => {
-            io::print_decimal(STDOUT_FILENO, i as u64);
-        }
-        Found::Nothing => {
-            io::write_all(STDOUT_FILENO, b"none");
-        }
+        Found::At(i) => rt.print(i),
+        Found::Nothing => rt.write_all(b"none"),
     }
 }
 
 // The line of a search: by the plain search, and by the index over the first `n` rows.
-fn ask(name: &[u8], rows: &mut [u32], n: u32, cells: &[u32], w: Wanted) {
-    io::write_all(STDOUT_FILENO, name);
-    io::write_all(STDOUT_FILENO, b": ");
+fn ask(
+    rt: &impl Print,
+    name: &[u8],
+    rows: &mut [u32],
+    n: u32,
+    cells: &[u32],
+    w: Wanted,
+) -> io::Result<()> {
+    rt.write_all(name)?;
+    rt.write_all(b": ")?;
     let plain = last_row(rows, n, cells, CELLS, w);
-    print(plain);
-    io::write_all(STDOUT_FILENO, b" ");
+    print(rt, plain)?;
+    rt.write_all(b" ")?;
     index_rows(rows, n);
     let by_index = find_row(rows, n, w.kind, w.a, w.b, w.c, w.d, w.e);
-    print(by_index);
-    io::write_all(STDOUT_FILENO, b"\n");
+    print(rt, by_index)?;
+    rt.write_all(b"\n")
 }
 
-fn ask_pair(name: &[u8], rows: &mut [u32], n: u32, cells: &[u32], kind: u32, a: u32, b: u32) {
+fn ask_pair(
+    rt: &impl Print,
+    name: &[u8],
+    rows: &mut [u32],
+    n: u32,
+    cells: &[u32],
+    kind: u32,
+    a: u32,
+    b: u32,
+) -> io::Result<()> {
     let w = wanted(kind, a, b, 0, 0, 0);
-    ask(name, rows, n, cells, w);
+    ask(rt, name, rows, n, cells, w)
 }
 
 // No row, and one.
-fn small(cells: &[u32]) {
+fn small(rt: &impl Print, cells: &[u32]) -> io::Result<()> {
     let mut rows = [0u32; 192];
-    ask_pair(b"empty", &mut rows, 0, cells, LT, 1, 2);
+    ask_pair(rt, b"empty", &mut rows, 0, cells, LT, 1, 2)?;
     pair(&mut rows, 0, LT_Z, 1, 2);
-    ask_pair(b"empty, a row behind it", &mut rows, 0, cells, LT, 1, 2);
-    ask_pair(b"one", &mut rows, 1, cells, LT, 1, 2);
-    ask_pair(b"one, another asked", &mut rows, 1, cells, LT, 2, 1);
+    ask_pair(rt, b"empty, a row behind it", &mut rows, 0, cells, LT, 1, 2)?;
+    ask_pair(rt, b"one", &mut rows, 1, cells, LT, 1, 2)?;
+    ask_pair(rt, b"one, another asked", &mut rows, 1, cells, LT, 2, 1)?;
     pair(&mut rows, 0, CTX_NIL, 0, 0);
-    ask_pair(b"one, a context", &mut rows, 1, cells, CTX, 0, 0);
+    ask_pair(rt, b"one, a context", &mut rows, 1, cells, CTX, 0, 0)
 }
 
 // A judgment that stands twice, and three times, by one rule and by two.
-fn repeated(cells: &[u32]) {
+fn repeated(rt: &impl Print, cells: &[u32]) -> io::Result<()> {
     let mut rows = [0u32; 192];
     row(&mut rows, 0, TYPE_ZERO, 0, 0, 2, 1, 0);
     pair(&mut rows, 1, LT_Z, 1, 2);
@@ -145,10 +157,18 @@ fn repeated(cells: &[u32]) {
     pair(&mut rows, 4, LE_Z, 1, 2);
     pair(&mut rows, 5, LT_Z, 1, 2);
     let typing = wanted(HAS, 0, 0, 2, 1, 0);
-    ask(b"twice", &mut rows, 6, cells, typing);
-    ask(b"twice, cut after the first", &mut rows, 2, cells, typing);
-    ask_pair(b"three times", &mut rows, 6, cells, LT, 1, 2);
+    ask(rt, b"twice", &mut rows, 6, cells, typing)?;
+    ask(
+        rt,
+        b"twice, cut after the first",
+        &mut rows,
+        2,
+        cells,
+        typing,
+    )?;
+    ask_pair(rt, b"three times", &mut rows, 6, cells, LT, 1, 2)?;
     ask_pair(
+        rt,
         b"three times, cut after the second",
         &mut rows,
         5,
@@ -156,12 +176,12 @@ fn repeated(cells: &[u32]) {
         LT,
         1,
         2,
-    );
-    ask_pair(b"once between them", &mut rows, 6, cells, LE, 1, 2);
+    )?;
+    ask_pair(rt, b"once between them", &mut rows, 6, cells, LE, 1, 2)
 }
 
 // Neighbours that differ in one argument, or in the kind alone.
-fn neighbours(cells: &[u32]) {
+fn neighbours(rt: &impl Print, cells: &[u32]) -> io::Result<()> {
     let mut rows = [0u32; 192];
     row(&mut rows, 0, EQ_REFL, 1, 0, 2, 2, 1);
     row(&mut rows, 1, EQ_REFL, 0, 0, 2, 2, 1);
@@ -172,10 +192,18 @@ fn neighbours(cells: &[u32]) {
     pair(&mut rows, 6, LT_Z, 4, 5);
     pair(&mut rows, 7, LE_Z, 4, 5);
     let middle = wanted(EQ, 0, 0, 2, 2, 1);
-    ask(b"neighbours in an argument", &mut rows, 8, cells, middle);
+    ask(
+        rt,
+        b"neighbours in an argument",
+        &mut rows,
+        8,
+        cells,
+        middle,
+    )?;
     let other = wanted(EQ, 0, 0, 3, 2, 1);
-    ask(b"none of the neighbours", &mut rows, 8, cells, other);
+    ask(rt, b"none of the neighbours", &mut rows, 8, cells, other)?;
     ask_pair(
+        rt,
         b"neighbours in the kind, the lower",
         &mut rows,
         8,
@@ -183,8 +211,9 @@ fn neighbours(cells: &[u32]) {
         LT,
         4,
         5,
-    );
+    )?;
     ask_pair(
+        rt,
         b"neighbours in the kind, the higher",
         &mut rows,
         8,
@@ -192,11 +221,11 @@ fn neighbours(cells: &[u32]) {
         LE,
         4,
         5,
-    );
+    )
 }
 
 // Rows whose arguments are cells with the same quote, that are not the lowest: the index is not promised to find these.
-fn annotated(cells: &[u32]) {
+fn annotated(rt: &impl Print, cells: &[u32]) -> io::Result<()> {
     let mut rows = [0u32; 192];
     row(&mut rows, 0, TYPE_ZERO, 0, 0, 5, 7, 0);
     row(&mut rows, 1, TYPE_ZERO, 0, 0, 6, 7, 0);
@@ -205,36 +234,48 @@ fn annotated(cells: &[u32]) {
     row(&mut rows, 4, TYPE_ZERO, 0, 0, 13, 1, 0);
     let lam = wanted(HAS, 0, 0, 5, 7, 0);
     ask(
+        rt,
         b"an annotation, by the lower cell",
         &mut rows,
         2,
         cells,
         lam,
-    );
+    )?;
     let again = wanted(HAS, 0, 0, 6, 8, 0);
     ask(
+        rt,
         b"an annotation, by the higher cell",
         &mut rows,
         2,
         cells,
         again,
-    );
+    )?;
     let app = wanted(HAS, 0, 0, 9, 1, 0);
-    ask(b"an annotation inside", &mut rows, 5, cells, app);
+    ask(rt, b"an annotation inside", &mut rows, 5, cells, app)?;
     let context = wanted(HAS, 0, 11, 2, 7, 0);
-    ask(b"equal cells", &mut rows, 5, cells, context);
+    ask(rt, b"equal cells", &mut rows, 5, cells, context)
 }
 
 // Judgments with one hash: each is told from the other.
-fn collided(cells: &[u32]) {
+fn collided(rt: &impl Print, cells: &[u32]) -> io::Result<()> {
     let mut rows = [0u32; 192];
     pair(&mut rows, 0, LT_Z, 74, 22855);
     pair(&mut rows, 1, LT_Z, 30986, 46738);
     pair(&mut rows, 2, LT_Z, 54026, 50204);
     pair(&mut rows, 3, LE_Z, 44333, 27115);
     pair(&mut rows, 4, LT_Z, 74, 22855);
-    ask_pair(b"one hash, the first", &mut rows, 4, cells, LT, 74, 22855);
     ask_pair(
+        rt,
+        b"one hash, the first",
+        &mut rows,
+        4,
+        cells,
+        LT,
+        74,
+        22855,
+    )?;
+    ask_pair(
+        rt,
         b"one hash, the first again",
         &mut rows,
         5,
@@ -242,8 +283,9 @@ fn collided(cells: &[u32]) {
         LT,
         74,
         22855,
-    );
+    )?;
     ask_pair(
+        rt,
         b"one hash, the second",
         &mut rows,
         5,
@@ -251,8 +293,9 @@ fn collided(cells: &[u32]) {
         LT,
         30986,
         46738,
-    );
+    )?;
     ask_pair(
+        rt,
         b"one hash, another kind",
         &mut rows,
         5,
@@ -260,8 +303,9 @@ fn collided(cells: &[u32]) {
         LE,
         44333,
         27115,
-    );
+    )?;
     ask_pair(
+        rt,
         b"one hash, not there",
         &mut rows,
         1,
@@ -269,7 +313,7 @@ fn collided(cells: &[u32]) {
         LT,
         30986,
         46738,
-    );
+    )
 }
 
 // Every row of the slice is used, and each judgment of the upper half stands in the lower too.
@@ -281,11 +325,12 @@ fn fill(rows: &mut [u32]) {
     }
 }
 
-fn full(cells: &[u32]) {
+fn full(rt: &impl Print, cells: &[u32]) -> io::Result<()> {
     let mut rows = [0u32; 6144];
     fill(&mut rows);
-    ask_pair(b"full, the last", &mut rows, 256, cells, LT, 127, 7);
+    ask_pair(rt, b"full, the last", &mut rows, 256, cells, LT, 127, 7)?;
     ask_pair(
+        rt,
         b"full, the lowest of the upper half",
         &mut rows,
         256,
@@ -293,20 +338,20 @@ fn full(cells: &[u32]) {
         LT,
         0,
         7,
-    );
-    ask_pair(b"full, the lower half", &mut rows, 128, cells, LT, 5, 7);
-    ask_pair(b"full, not there", &mut rows, 256, cells, LT, 128, 7);
+    )?;
+    ask_pair(rt, b"full, the lower half", &mut rows, 128, cells, LT, 5, 7)?;
+    ask_pair(rt, b"full, not there", &mut rows, 256, cells, LT, 128, 7)
 }
 
-fn main() {
+fn main(rt: HostRuntime) -> io::Result<()> {
     let mut cells = [0u32; 112];
     atoms(&mut cells);
     terms(&mut cells);
     others(&mut cells);
-    small(&cells);
-    repeated(&cells);
-    neighbours(&cells);
-    annotated(&cells);
-    collided(&cells);
-    full(&cells);
+    small(&rt, &cells)?;
+    repeated(&rt, &cells)?;
+    neighbours(&rt, &cells)?;
+    annotated(&rt, &cells)?;
+    collided(&rt, &cells)?;
+    full(&rt, &cells)
 }

@@ -4,8 +4,8 @@
 
 ghost use Rattle.std.specs.Prelude.{◌<◌};
 
-use libc::STDOUT_FILENO;
 use ran::Ran;
+use std::io;
 use syntax::call_codes;
 use text::Piece;
 
@@ -20,12 +20,12 @@ struct Tally {
     wrong: u32,
 }
 
-fn say(s: &[u8]) {
-    io::write_all(STDOUT_FILENO, s);
+fn say(rt: &impl Print, s: &[u8]) -> io::Result<()> {
+    rt.write_all(s)
 }
 
-fn count(n: usize) {
-    io::print_decimal(STDOUT_FILENO, n as u64);
+fn count(rt: &impl Print, n: usize) -> io::Result<()> {
+    rt.print(n)
 }
 
 fn wide(b: u8) -> usize
@@ -118,8 +118,8 @@ fn shown(
 }
 
 // The rest of a line, or what there is of it in the buffer.
-fn line(label: &[u8], s: &[u8; 16384], from: usize) {
-    say(label);
+fn line(rt: &impl Print, label: &[u8], s: &[u8; 16384], from: usize) -> io::Result<()> {
+    say(rt, label)?;
     let mut i = from;
     while i < 16384 {
         let b = s[i];
@@ -127,25 +127,27 @@ fn line(label: &[u8], s: &[u8; 16384], from: usize) {
         if b <= 10 {
             break;
         }
-        say(&[b]);
+        say(rt, &[b])?;
         i += 1;
     }
-    say(b"\n");
+    say(rt, b"\n")
 }
 
 // The next bytes of standard input, into the first of the buffer.
-fn take(buf: &mut [u8], size: usize) {
+fn take(rt: &impl Input, buf: &mut [u8], size: usize) -> io::Result<()> {
     if size <= buf.len() {
-        io::read_full(0, &mut buf[..size]);
+        stdio::read_full(rt, &mut buf[..size])?;
     }
+    Ok(())
 }
 
-fn text_of(buf: &mut [u8; 16384], size: usize) {
-    take(buf, size);
+fn text_of(rt: &impl Input, buf: &mut [u8; 16384], size: usize) -> io::Result<()> {
+    take(rt, buf, size)
 }
 
 // Reads the next `size` bytes of the stored text, and compares what came with them; says where they part, unless an earlier part did.
 fn part(
+    rt: &(impl Input + Print),
     run: Ran,
     codes: &[u8],
     answers: &[u32],
@@ -154,62 +156,63 @@ fn part(
     from: usize,
     size: usize,
     good: bool,
-) -> bool {
+) -> io::Result<bool> {
     let mut stored = [0u8; 16384];
     let mut came = [0u8; 16384];
-    text_of(&mut stored, size);
+    text_of(rt, &mut stored, size)?;
     shown(run, codes, answers, rows, cells, from, &mut came);
     let at = apart(&stored, &came, size);
     if at == size {
-        return good;
+        return Ok(good);
     }
     if good {
-        say(b"\nfrom byte ");
-        count(from);
-        say(b" on, past ");
-        count(at);
-        line(b" bytes, stored: ", &stored, at);
-        line(b"came: ", &came, at);
+        say(rt, b"\nfrom byte ")?;
+        count(rt, from)?;
+        say(rt, b" on, past ")?;
+        count(rt, at)?;
+        line(rt, b" bytes, stored: ", &stored, at)?;
+        line(rt, b"came: ", &came, at)?;
     }
-    false
+    Ok(false)
 }
 
 // Whether the text is the stored one, which has `total` bytes.
 fn texts(
+    rt: &(impl Input + Print),
     run: Ran,
     codes: &[u8],
     answers: &[u32],
     rows: &[u32],
     cells: &[u32],
     total: usize,
-) -> bool {
+) -> io::Result<bool> {
     let mut good = true;
     let mut from: usize = 0;
     while from < total {
         let rest = total - from;
         if rest < 16384 {
-            good = part(run, codes, answers, rows, cells, from, rest, good);
+            good = part(rt, run, codes, answers, rows, cells, from, rest, good)?;
             break;
         }
-        good = part(run, codes, answers, rows, cells, from, 16384, good);
+        good = part(rt, run, codes, answers, rows, cells, from, 16384, good)?;
         from += 16384;
     }
     let mut more = [0u8; 16384];
     let n = shown(run, codes, answers, rows, cells, total, &mut more);
     if 0 < n {
-        line(b"\nmore came: ", &more, 0);
-        return false;
+        line(rt, b"\nmore came: ", &more, 0)?;
+        return Ok(false);
     }
-    good
+    Ok(good)
 }
 
 // Whether the words past the used ones are as they were.
-fn past(s: &[u32], used: usize, label: &[u8]) -> bool {
+fn past(rt: &impl Print, s: &[u32], used: usize, label: &[u8]) -> io::Result<bool> {
     if kept(s, used) {
-        return true;
+        return Ok(true);
     }
-    say(label);
-    false
+    say(rt, label)?;
+    Ok(false)
 }
 
 // More calls than any run has.
@@ -225,77 +228,84 @@ fn fair(run: Ran) -> bool {
 
 // Whether a run left what is stored; gives the number of its calls, or `WRONG`.
 fn judge(
+    rt: &(impl Input + Print),
     run: Ran,
     total: usize,
     codes: &[u8],
     answers: &[u32],
     rows: &[u32],
     cells: &[u32],
-) -> u32 {
-    let same = texts(run, codes, answers, rows, cells, total);
+) -> io::Result<u32> {
+    let same = texts(rt, run, codes, answers, rows, cells, total)?;
     let a = past(
+        rt,
         rows,
         (run.rows as usize) * 24,
         b"\nrows past the used ones changed\n",
-    );
+    )?;
     let b = past(
+        rt,
         cells,
         (run.cells as usize) * 8,
         b"\ncells past the used ones changed\n",
-    );
+    )?;
     let c = past(
+        rt,
         answers,
         (run.calls as usize) * 4,
         b"\nanswers past the used ones changed\n",
-    );
+    )?;
     if same & a & b & c & fair(run) {
-        run.calls
+        Ok(run.calls)
     } else {
-        WRONG
+        Ok(WRONG)
     }
 }
 
 // Plays a run and compares what it left.
 fn hold(
+    rt: &(impl Input + Print),
     bytes: &[u8],
     total: usize,
     rows: &mut [u32],
     cells: &mut [u32],
     answers: &mut [u32],
     codes: &mut [u8],
-) -> u32 {
+) -> io::Result<u32> {
     let ran = run::entry::run(bytes, rows, cells, answers);
     call_codes(bytes, codes);
-    judge(ran, total, codes, answers, rows, cells)
+    judge(rt, ran, total, codes, answers, rows, cells)
 }
 
 // Lends as much of each slice as the head says.
 fn lend(
+    rt: &(impl Input + Print),
     head: &[u8; 52],
     bytes: &[u8],
     rows: &mut [u32],
     cells: &mut [u32],
     answers: &mut [u32],
     codes: &mut [u8],
-) -> u32 {
+) -> io::Result<u32> {
     let r = word(head, 28);
     let c = word(head, 32);
     let a = word(head, 36);
     let n = word(head, 40);
     let total = word(head, 48);
     if rows.len() < r {
-        return WRONG;
+        return Ok(WRONG);
     }
     if cells.len() < c {
-        return WRONG;
+        return Ok(WRONG);
     }
     if answers.len() < a {
-        return WRONG;
+        return Ok(WRONG);
     }
     if bytes.len() < n {
-        return WRONG;
+        return Ok(WRONG);
     }
     hold(
+        rt,
         &bytes[..n],
         total,
         &mut rows[..r],
@@ -307,75 +317,76 @@ fn lend(
 
 // The arrays as slices, filled anew.
 fn turn(
+    rt: &(impl Input + Print),
     head: &[u8; 52],
     bytes: &[u8; 65600],
     rows: &mut [u32; 49152],
     cells: &mut [u32; 32768],
     answers: &mut [u32; 16384],
     codes: &mut [u8; 4096],
-) -> u32 {
+) -> io::Result<u32> {
     fill(rows);
     fill(cells);
     fill(answers);
-    lend(head, bytes, rows, cells, answers, codes)
+    lend(rt, head, bytes, rows, cells, answers, codes)
 }
 
 // The stored bytes of a run, and zeros after them.
-fn bytes_of(bytes: &mut [u8; 65600], stored: usize) {
+fn bytes_of(rt: &impl Input, bytes: &mut [u8; 65600], stored: usize) -> io::Result<()> {
     clear(bytes);
-    take(bytes, stored);
+    take(rt, bytes, stored)
 }
 
 // A head; whether there is one more.
-fn head_of(head: &mut [u8; 52]) -> bool {
-    io::read_full(0, head) == 52
+fn head_of(rt: &impl Input, head: &mut [u8; 52]) -> io::Result<bool> {
+    Ok(stdio::read_full(rt, head)? == 52)
 }
 
-fn start(s: &[u8], n: usize) {
+fn start(rt: &impl Print, s: &[u8], n: usize) -> io::Result<()> {
     if n <= s.len() {
-        say(&s[..n]);
+        say(rt, &s[..n])?;
     }
+    Ok(())
 }
 
-fn name(head: &[u8; 52]) {
-    start(head, 28);
+fn name(rt: &impl Print, head: &[u8; 52]) -> io::Result<()> {
+    start(rt, head, 28)
 }
 
 // One more run, with so many calls or wrong.
-fn counted(t: Tally, calls: u32) -> Tally {
+fn counted(rt: &impl Print, t: Tally, calls: u32) -> io::Result<Tally> {
     let runs = std::num::wrapping_add_u32(t.runs, 1);
     if calls == WRONG {
-        say(b"DIFFERS\n");
+        say(rt, b"DIFFERS\n")?;
         let wrong = std::num::wrapping_add_u32(t.wrong, 1);
-        return Tally {
+        return Ok(Tally {
             runs,
             calls: t.calls,
             wrong,
-        };
+        });
     }
-    say(b"as stored\n");
+    say(rt, b"as stored\n")?;
     let sum = std::num::wrapping_add_u32(t.calls, calls);
-    Tally {
+    Ok(Tally {
         runs,
         calls: sum,
         wrong: t.wrong,
-    }
+    })
 }
 
-fn total(t: Tally) {
-    count(t.runs as usize);
-    say(b" runs, ");
-    count(t.calls as usize);
-    say(b" calls: ");
+fn total(rt: &impl Print, t: Tally) -> io::Result<()> {
+    count(rt, t.runs as usize)?;
+    say(rt, b" runs, ")?;
+    count(rt, t.calls as usize)?;
+    say(rt, b" calls: ")?;
     if t.wrong == 0 {
-        say(b"all as stored\n");
-        return;
+        return say(rt, b"all as stored\n");
     }
-    count(t.wrong as usize);
-    say(b" runs differ\n");
+    count(rt, t.wrong as usize)?;
+    say(rt, b" runs differ\n")
 }
 
-fn main() {
+fn main(rt: HostRuntime) -> io::Result<()> {
     let mut head = [0u8; 52];
     let mut bytes = [0u8; 65600];
     let mut rows = [0u32; 49152];
@@ -389,22 +400,23 @@ fn main() {
     };
     let mut i: u32 = 0;
     while i < 100000 {
-        if head_of(&mut head) {
-            name(&head);
-            bytes_of(&mut bytes, word(&head, 44));
+        if head_of(&rt, &mut head)? {
+            name(&rt, &head)?;
+            bytes_of(&rt, &mut bytes, word(&head, 44))?;
             let calls = turn(
+                &rt,
                 &head,
                 &bytes,
                 &mut rows,
                 &mut cells,
                 &mut answers,
                 &mut codes,
-            );
-            t = counted(t, calls);
+            )?;
+            t = counted(&rt, t, calls)?;
             i += 1;
         } else {
             break;
         }
     }
-    total(t);
+    total(&rt, t)
 }

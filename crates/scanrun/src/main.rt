@@ -1,70 +1,71 @@
 // Shows what the reader says of runs on each side of its edges.
 #![tactic(auto)]
 
-use libc::STDOUT_FILENO;
+use std::io;
 use syntax::{Scanned, Size};
 
-fn text(s: &[u8]) {
-    io::write_all(STDOUT_FILENO, s);
+fn text(rt: &impl Print, s: &[u8]) -> io::Result<()> {
+    rt.write_all(s)
 }
 
-fn pair(a: &[u8], x: usize, b: &[u8], y: usize) {
-    text(a);
-    io::print_decimal(STDOUT_FILENO, x as u64);
-    text(b);
-    io::print_decimal(STDOUT_FILENO, y as u64);
-    text(b"\n");
+fn pair(rt: &impl Print, a: &[u8], x: usize, b: &[u8], y: usize) -> io::Result<()> {
+    text(rt, a)?;
+    rt.print(x)?;
+    text(rt, b)?;
+    rt.print(y)?;
+    text(rt, b"\n")
 }
 
 // The nesting limit and the number of calls, or the refusal and its place.
-fn run(label: &[u8], s: &[u8]) {
-    text(label);
+fn run(rt: &impl Print, label: &[u8], s: &[u8]) -> io::Result<()> {
+    text(rt, label)?;
     match syntax::scan_run(s) {
-        Scanned::Calls(limit, calls) => pair(b": limit ", limit, b", calls ", calls),
-        Scanned::Refused(number, place) => pair(b": refused ", number as usize, b" at ", place),
+        Scanned::Calls(limit, calls) => pair(rt, b": limit ", limit, b", calls ", calls),
+        Scanned::Refused(number, place) => pair(rt, b": refused ", number as usize, b" at ", place),
     }
 }
 
 // The first call's nodes, or its refusal, and the offset past it.
-fn call(label: &[u8], s: &[u8]) {
+fn call(rt: &impl Print, label: &[u8], s: &[u8]) -> io::Result<()> {
     let mut stack = [0u8; 131073];
-    text(label);
+    text(rt, label)?;
     match syntax::size_call(s, 2, &mut stack) {
-        Size::Fits(_, nodes, next) => pair(b": nodes ", nodes, b", next ", next),
-        Size::Refused(number, next) => pair(b": refused ", number as usize, b", next ", next),
-        Size::Bad(place) => pair(b": bad ", place, b" of ", s.len()),
-        Size::Short => text(b": no room\n"),
+        Size::Fits(_, nodes, next) => pair(rt, b": nodes ", nodes, b", next ", next),
+        Size::Refused(number, next) => pair(rt, b": refused ", number as usize, b", next ", next),
+        Size::Bad(place) => pair(rt, b": bad ", place, b" of ", s.len()),
+        Size::Short => text(rt, b": no room\n"),
     }
 }
 
-fn headers() {
-    run(b"empty", &[]);
-    run(b"one byte", &[100]);
-    run(b"limit 0", &[0, 0]);
-    run(b"limit 1", &[1, 0]);
-    run(b"limit 4096", &[0, 16]);
-    run(b"limit 4097", &[1, 16]);
-    run(b"limit 0, then no code", &[0, 0, 6]);
+fn headers(rt: &impl Print) -> io::Result<()> {
+    run(rt, b"empty", &[])?;
+    run(rt, b"one byte", &[100])?;
+    run(rt, b"limit 0", &[0, 0])?;
+    run(rt, b"limit 1", &[1, 0])?;
+    run(rt, b"limit 4096", &[0, 16])?;
+    run(rt, b"limit 4097", &[1, 16])?;
+    run(rt, b"limit 0, then no code", &[0, 0, 6])
 }
 
 // The place is the leftmost byte that may not stand there, or the length.
-fn places() {
-    run(b"check zero at nat", &[100, 0, 3, 0, 0, 4, 3]);
-    run(b"no code", &[100, 0, 6, 0, 0, 4, 3]);
-    run(b"code alone", &[100, 0, 3]);
-    run(b"no length", &[100, 0, 3, 0]);
-    run(b"no term", &[100, 0, 3, 0, 0]);
-    run(b"no kind", &[100, 0, 3, 0, 0, 15, 0]);
-    run(b"no type", &[100, 0, 3, 0, 0, 4]);
-    run(b"no kind in the type", &[100, 0, 3, 0, 0, 4, 0]);
-    run(b"v without a number", &[100, 0, 2, 0, 0, 2]);
+fn places(rt: &impl Print) -> io::Result<()> {
+    run(rt, b"check zero at nat", &[100, 0, 3, 0, 0, 4, 3])?;
+    run(rt, b"no code", &[100, 0, 6, 0, 0, 4, 3])?;
+    run(rt, b"code alone", &[100, 0, 3])?;
+    run(rt, b"no length", &[100, 0, 3, 0])?;
+    run(rt, b"no term", &[100, 0, 3, 0, 0])?;
+    run(rt, b"no kind", &[100, 0, 3, 0, 0, 15, 0])?;
+    run(rt, b"no type", &[100, 0, 3, 0, 0, 4])?;
+    run(rt, b"no kind in the type", &[100, 0, 3, 0, 0, 4, 0])?;
+    run(rt, b"v without a number", &[100, 0, 2, 0, 0, 2])?;
     run(
+        rt,
         b"papp with an interval",
         &[100, 0, 2, 0, 0, 10, 4, 20, 16, 18, 255],
-    );
-    run(b"papp with a term", &[100, 0, 2, 0, 0, 10, 4, 4]);
-    run(b"interval for a term", &[100, 0, 2, 0, 0, 16]);
-    run(b"second call cut", &[100, 0, 0, 0, 0, 1, 0]);
+    )?;
+    run(rt, b"papp with a term", &[100, 0, 2, 0, 0, 10, 4, 4])?;
+    run(rt, b"interval for a term", &[100, 0, 2, 0, 0, 16])?;
+    run(rt, b"second call cut", &[100, 0, 0, 0, 0, 1, 0])
 }
 
 // Puts b at count places from an offset on, as far as there are any.
@@ -82,19 +83,20 @@ fn fill(s: &mut [u8], from: usize, count: usize, b: u8) {
 }
 
 // The first n bytes, as a run and as a call.
-fn part(label: &[u8], s: &[u8], n: usize) {
+fn part(rt: &impl Print, label: &[u8], s: &[u8], n: usize) -> io::Result<()> {
     if n <= s.len() {
         let t = &s[..n];
-        run(label, t);
-        call(label, t);
+        run(rt, label, t)?;
+        call(rt, label, t)?;
     }
+    Ok(())
 }
 
 // infer papp(zero, neg .. neg dim n), with so many negs: the dim's depth is one more.
-fn deep(label: &[u8], negs: usize, n: u8) {
+fn deep(rt: &impl Print, label: &[u8], negs: usize, n: u8) -> io::Result<()> {
     let mut s = [0u8; 60032];
     if 60000 < negs {
-        return;
+        return Ok(());
     }
     let at = 7 + negs;
     s[0] = 100;
@@ -104,34 +106,34 @@ fn deep(label: &[u8], negs: usize, n: u8) {
     fill(&mut s, 7, negs, 19);
     s[at] = 18;
     s[at + 1] = n;
-    part(label, &s, at + 2);
+    part(rt, label, &s, at + 2)
 }
 
 // A context of so many nats.
-fn nats(label: &[u8], dims: u8, size: u8) {
+fn nats(rt: &impl Print, label: &[u8], dims: u8, size: u8) -> io::Result<()> {
     let mut s = [0u8; 300];
     let n = size as usize;
     s[0] = 100;
     s[3] = dims;
     s[4] = size;
     fill(&mut s, 5, n, 3);
-    part(label, &s, 5 + n);
+    part(rt, label, &s, 5 + n)
 }
 
-fn limits() {
-    call(b"index 32", &[100, 0, 2, 0, 0, 2, 32]);
-    call(b"index 33", &[100, 0, 2, 0, 0, 2, 33]);
-    call(b"level 33", &[100, 0, 2, 0, 0, 1, 33]);
-    deep(b"depth 32", 31, 32);
-    deep(b"depth 33", 32, 32);
-    deep(b"depth 32, dim 33", 31, 33);
-    deep(b"depth 33, dim 33", 32, 33);
-    deep(b"depth 60001", 60000, 0);
-    nats(b"33 dims, 33 types", 33, 33);
-    nats(b"34 dims", 34, 0);
-    nats(b"34 types", 0, 34);
-    call(b"34 dims, index 33", &[100, 0, 2, 34, 0, 2, 33]);
-    call(b"no kind after index 33", &[100, 0, 3, 0, 0, 2, 33, 0]);
+fn limits(rt: &impl Print) -> io::Result<()> {
+    call(rt, b"index 32", &[100, 0, 2, 0, 0, 2, 32])?;
+    call(rt, b"index 33", &[100, 0, 2, 0, 0, 2, 33])?;
+    call(rt, b"level 33", &[100, 0, 2, 0, 0, 1, 33])?;
+    deep(rt, b"depth 32", 31, 32)?;
+    deep(rt, b"depth 33", 32, 32)?;
+    deep(rt, b"depth 32, dim 33", 31, 33)?;
+    deep(rt, b"depth 33, dim 33", 32, 33)?;
+    deep(rt, b"depth 60001", 60000, 0)?;
+    nats(rt, b"33 dims, 33 types", 33, 33)?;
+    nats(rt, b"34 dims", 34, 0)?;
+    nats(rt, b"34 types", 0, 34)?;
+    call(rt, b"34 dims, index 33", &[100, 0, 2, 34, 0, 2, 33])?;
+    call(rt, b"no kind after index 33", &[100, 0, 3, 0, 0, 2, 33, 0])
 }
 
 // A full tree of applications, so deep, from an offset on; gives the offset past it.
@@ -149,7 +151,7 @@ fn tree(s: &mut [u8], at: usize, depth: usize) -> usize {
 }
 
 // A context whose types are such trees: 8191, 1023, 511, 255, 15, 3, 1 and 1 nodes, and 1 more where it has nine.
-fn nodes(label: &[u8], size: u8) {
+fn nodes(rt: &impl Print, label: &[u8], size: u8) -> io::Result<()> {
     let mut s = [0u8; 10100];
     s[0] = 100;
     s[4] = size;
@@ -162,28 +164,28 @@ fn nodes(label: &[u8], size: u8) {
     let g = tree(&mut s, f, 0);
     let h = tree(&mut s, g, 0);
     if size == 8 {
-        part(label, &s, h);
+        part(rt, label, &s, h)
     } else {
         let i = tree(&mut s, h, 0);
-        part(label, &s, i);
+        part(rt, label, &s, i)
     }
 }
 
-fn large() {
+fn large(rt: &impl Print) -> io::Result<()> {
     let mut s = [0u8; 65537];
     s[0] = 100;
     s[4] = 2;
     s[5] = 3;
     s[6] = 3;
-    run(b"65536 bytes", &s[..65536]);
-    run(b"65537 bytes", &s);
+    run(rt, b"65536 bytes", &s[..65536])?;
+    run(rt, b"65537 bytes", &s)
 }
 
-fn main() {
-    headers();
-    places();
-    limits();
-    nodes(b"10000 nodes", 8);
-    nodes(b"10001 nodes", 9);
-    large();
+fn main(rt: HostRuntime) -> io::Result<()> {
+    headers(&rt)?;
+    places(&rt)?;
+    limits(&rt)?;
+    nodes(&rt, b"10000 nodes", 8)?;
+    nodes(&rt, b"10001 nodes", 9)?;
+    large(&rt)
 }

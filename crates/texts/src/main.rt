@@ -2,12 +2,13 @@
 // of every kind, whole and piece by piece; then how much is left of a short text and of one that nobody could print.
 #![tactic(auto)]
 
-use libc::STDOUT_FILENO;
 use ran::Ran;
+use std::io;
 use text::Piece;
 
 // The window that starts at `from`; whether there is more.
 fn turn(
+    rt: &impl Print,
     what: Piece,
     run: Ran,
     codes: &[u8],
@@ -15,28 +16,43 @@ fn turn(
     rows: &[u32],
     cells: &[u32],
     from: usize,
-) -> bool {
+) -> io::Result<bool> {
     let mut buf = [0u8; 7];
     let seen = text::window(what, run, codes, answers, rows, cells, from, 1, &mut buf);
-    io::write_all(STDOUT_FILENO, &buf[..seen.put]);
-    seen.left == 1
+    rt.write_all(&buf[..seen.put])?;
+    Ok(seen.left == 1)
 }
 
 // A whole text, which has fewer than 4,096 bytes.
-fn show(what: Piece, run: Ran, codes: &[u8], answers: &[u32], rows: &[u32], cells: &[u32]) {
+fn show(
+    rt: &impl Print,
+    what: Piece,
+    run: Ran,
+    codes: &[u8],
+    answers: &[u32],
+    rows: &[u32],
+    cells: &[u32],
+) -> io::Result<()> {
     let mut from: usize = 0;
     while from < 4096 {
-        if !turn(what, run, codes, answers, rows, cells, from) {
-            return;
+        if !turn(rt, what, run, codes, answers, rows, cells, from)? {
+            return Ok(());
         }
         from += 7;
     }
+    Ok(())
 }
 
 // A field, which has no end of line of its own.
-fn show_field(what: Piece, run: Ran, rows: &[u32], cells: &[u32]) {
-    show(what, run, b"", &[0u32; 0], rows, cells);
-    io::write_all(STDOUT_FILENO, b"\n");
+fn show_field(
+    rt: &impl Print,
+    what: Piece,
+    run: Ran,
+    rows: &[u32],
+    cells: &[u32],
+) -> io::Result<()> {
+    show(rt, what, run, b"", &[0u32; 0], rows, cells)?;
+    rt.write_all(b"\n")
 }
 
 // The word `i` of a store whose cells are each a pi type of the one before it twice, but the first, which is nat.
@@ -62,7 +78,13 @@ fn nest(cells: &mut [u32]) {
 }
 
 // How many bytes a window of seven at `from` puts of a call's line, and how many are left, counted up to `most`.
-fn measure(answers: &[u32], cells: &[u32], from: usize, most: usize) {
+fn measure(
+    rt: &impl Print,
+    answers: &[u32],
+    cells: &[u32],
+    from: usize,
+    most: usize,
+) -> io::Result<()> {
     let run = Ran {
         number: 0,
         place: 0,
@@ -82,41 +104,41 @@ fn measure(answers: &[u32], cells: &[u32], from: usize, most: usize) {
         most,
         &mut buf,
     );
-    io::print_decimal(STDOUT_FILENO, seen.put as u64);
-    io::write_all(STDOUT_FILENO, b" ");
-    io::print_decimal(STDOUT_FILENO, seen.left as u64);
-    io::write_all(STDOUT_FILENO, b"\n");
+    rt.print(seen.put)?;
+    rt.write_all(b" ")?;
+    rt.print(seen.left)?;
+    rt.write_all(b"\n")
 }
 
 // What is left of `0 0 0 nat 1` and the line's end, twelve bytes.
-fn short(cells: &[u32]) {
+fn short(rt: &impl Print, cells: &[u32]) -> io::Result<()> {
     let answers: [u32; 4] = [0, 0, 0, 1];
-    measure(&answers, cells, 0, 0);
-    measure(&answers, cells, 0, 1);
-    measure(&answers, cells, 0, 100);
-    measure(&answers, cells, 5, 100);
-    measure(&answers, cells, 6, 100);
-    measure(&answers, cells, 12, 100);
-    measure(&answers, cells, 13, 100);
+    measure(rt, &answers, cells, 0, 0)?;
+    measure(rt, &answers, cells, 0, 1)?;
+    measure(rt, &answers, cells, 0, 100)?;
+    measure(rt, &answers, cells, 5, 100)?;
+    measure(rt, &answers, cells, 6, 100)?;
+    measure(rt, &answers, cells, 12, 100)?;
+    measure(rt, &answers, cells, 13, 100)
 }
 
 // And of a text of more than 2^63 bytes.
-fn long(cells: &[u32]) {
+fn long(rt: &impl Print, cells: &[u32]) -> io::Result<()> {
     let answers: [u32; 4] = [0, 0, 63, 1];
-    measure(&answers, cells, 0, 0);
-    measure(&answers, cells, 0, 1);
-    measure(&answers, cells, 1000, 1000);
+    measure(rt, &answers, cells, 0, 0)?;
+    measure(rt, &answers, cells, 0, 1)?;
+    measure(rt, &answers, cells, 1000, 1000)
 }
 
-fn left() {
+fn left(rt: &impl Print) -> io::Result<()> {
     let mut cells = [0u32; 512];
     nest(&mut cells);
-    short(&cells);
-    long(&cells);
+    short(rt, &cells)?;
+    long(rt, &cells)
 }
 
 // The run 100 0 3 0 0 4 3.
-fn first() {
+fn first(rt: &impl Print) -> io::Result<()> {
     let run = Ran {
         number: 0,
         place: 0,
@@ -133,11 +155,11 @@ fn first() {
         32, 0, 0, 0, 0, 0, 0, 0, 4, 0, 0, 0, 1, 0, 0, 0, 3, 0, 0, 0, 2, 0, 0, 0, 40, 0, 0, 1, 2, 1,
         0, 0,
     ];
-    show(Piece::Listing, run, b"\x03", &answers, &rows, &cells);
+    show(rt, Piece::Listing, run, b"\x03", &answers, &rows, &cells)
 }
 
 // A run that ends early.
-fn early() {
+fn early(rt: &impl Print) -> io::Result<()> {
     let run = Ran {
         number: 3,
         place: 6,
@@ -145,11 +167,19 @@ fn early() {
         rows: 0,
         cells: 0,
     };
-    show(Piece::Listing, run, b"", &[0u32; 0], &[0u32; 0], &[0u32; 0]);
+    show(
+        rt,
+        Piece::Listing,
+        run,
+        b"",
+        &[0u32; 0],
+        &[0u32; 0],
+        &[0u32; 0],
+    )
 }
 
 // Every kind of cell; a row with ten cited rows, and one that names no rule; calls of each kind, one of which repeats another.
-fn every() {
+fn every(rt: &impl Print) -> io::Result<()> {
     let run = Ran {
         number: 0,
         place: 0,
@@ -175,19 +205,19 @@ fn every() {
         0, 0, 21, 14, 11, 0, 0, 0, 0, 0, 10, 9, 15, 0, 0, 0, 0, 0, 33, 1, 0, 0, 0, 0, 0, 0, 33, 8,
         17, 0, 0, 0, 0, 0, 40, 0, 0, 1, 2, 1, 0, 0,
     ];
-    show(Piece::Listing, run, &codes, &answers, &rows, &cells);
-    show(Piece::CallLine(1), run, &codes, &answers, &rows, &cells);
-    show(Piece::RowLine(2), run, &codes, &answers, &rows, &cells);
-    show(Piece::Totals, run, &codes, &answers, &rows, &cells);
-    show_field(Piece::RowNumber(3), run, &rows, &cells);
-    show_field(Piece::RuleName(1), run, &rows, &cells);
-    show_field(Piece::Refs(1), run, &rows, &cells);
-    show_field(Piece::Judgment(2), run, &rows, &cells);
+    show(rt, Piece::Listing, run, &codes, &answers, &rows, &cells)?;
+    show(rt, Piece::CallLine(1), run, &codes, &answers, &rows, &cells)?;
+    show(rt, Piece::RowLine(2), run, &codes, &answers, &rows, &cells)?;
+    show(rt, Piece::Totals, run, &codes, &answers, &rows, &cells)?;
+    show_field(rt, Piece::RowNumber(3), run, &rows, &cells)?;
+    show_field(rt, Piece::RuleName(1), run, &rows, &cells)?;
+    show_field(rt, Piece::Refs(1), run, &rows, &cells)?;
+    show_field(rt, Piece::Judgment(2), run, &rows, &cells)
 }
 
-fn main() {
-    first();
-    early();
-    every();
-    left();
+fn main(rt: HostRuntime) -> io::Result<()> {
+    first(&rt)?;
+    early(&rt)?;
+    every(&rt)?;
+    left(&rt)
 }

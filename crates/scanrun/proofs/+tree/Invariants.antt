@@ -1,0 +1,5 @@
+-- The depth falls.
+use Rattle.scanrun.proofs.+tree.Given as goal
+
+abbrev pub decreases-tree : goal.decreases-tree
+decreases-tree l = l.depth
