@@ -3,12 +3,12 @@ use Rattle.std.specs.Prelude.{ℕ, ◌≡◌, refl}
 use Rattle.std.proofs.Math.Decide.{ℕ_discrete, dec_lt}
 use Rattle.std.proofs.Common.{arith}
 use Rattle.walk.specs.Syntax.{I0, I1, Dim, Neg, Var, Nat, Zero, Lam, App, PathLam, PathApp, Sigma, Pair}
-use Rattle.laws.specs.Indices.{if◌then◌else◌, up, put}
+use Rattle.laws.specs.Indices.{choose◌then◌else◌, up, put}
 use Rattle.laws.specs.Transforms.{itransform, transform_with, lifted, ishift, isubst, shift, subst, dshift, dsubst}
 
 -- to compute with all of it
 opened : Unit {0}
-unfolding if◌then◌else◌ ℕ_discrete dec_lt up put itransform transform_with lifted
+unfolding choose◌then◌else◌ ℕ_discrete dec_lt up put itransform transform_with lifted
 opened = tt
 
 -- a lam's annotation is outside its binder, a plam's inside

@@ -3,28 +3,28 @@ use Rattle.std.specs.Prelude.{ℕ, suc, ◌-◌, ◌≤◌, ◌<◌, ◌≡◌, 
 use Rattle.std.proofs.Common.{ap, arith}
 use Rattle.std.proofs.Math.Decide.{ℕ_discrete, dec_lt}
 
-infix 10 if◌then◌else◌
-unfoldable pub if◌then◌else◌ : {P A : Type 0} → Dec P → A → A → A
-if◌then◌else◌ (yes h) x y = x
-if◌then◌else◌ (no h) x y = y
+infix 10 choose◌then◌else◌
+unfoldable pub choose◌then◌else◌ : {P A : Type 0} → Dec P → A → A → A
+choose◌then◌else◌ (yes h) x y = x
+choose◌then◌else◌ (no h) x y = y
 
 -- from k on, up by one
 unfoldable pub up : ℕ → ℕ → ℕ
-up k n = if dec_lt n k then n else suc n
+up k n = choose dec_lt n k then n else suc n
 
 -- a for k; above k, down by one (v n is what has the index n)
 unfoldable pub put : {A : Type 0} → (ℕ → A) → ℕ → A → ℕ → A
-put v k a n = if ℕ_discrete n k then a else (if dec_lt n k then v n else v (n - 1))
+put v k a n = choose ℕ_discrete n k then a else (choose dec_lt n k then v n else v (n - 1))
 
 -- each by where n lies
 
-holds : {P A : Type 0} (x y : A) (d : Dec P) → P → (if d then x else y) ≡ x
-unfolding if◌then◌else◌
+holds : {P A : Type 0} (x y : A) (d : Dec P) → P → (choose d then x else y) ≡ x
+unfolding choose◌then◌else◌
 holds x y (yes h) p = refl
 holds x y (no h) p = absurd (h p)
 
-fails : {P A : Type 0} (x y : A) (d : Dec P) → (P → ⊥) → (if d then x else y) ≡ y
-unfolding if◌then◌else◌
+fails : {P A : Type 0} (x y : A) (d : Dec P) → (P → ⊥) → (choose d then x else y) ≡ y
+unfolding choose◌then◌else◌
 fails x y (yes h) p = absurd (p h)
 fails x y (no h) p = refl
 

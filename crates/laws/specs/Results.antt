@@ -7,7 +7,7 @@ use Rattle.std.proofs.Math.Bool.{true, false}
 use Rattle.std.proofs.Math.Decide.{ℕ_discrete, dec_lt, dec_le}
 use Rattle.std.proofs.Common.{arith}
 use Rattle.walk.specs.Syntax.{Interval, I0, I1, Dim, Neg, Meet, Join, Term, Universe, Var, Nat, Zero, Pi, Lam, App, Path, PathLam, PathApp, Sigma, Pair, Fst, Snd}
-use Rattle.walk.specs.State.{Thing, State, Outcome, done, refused, M, go_on, ◌>>=◌, pure, refuse, if◌then◌else◌, enter}
+use Rattle.walk.specs.State.{Thing, State, Outcome, done, refused, M, go_on, ◌>>=◌, pure, refuse, choose◌then◌else◌, enter}
 use Rattle.walk.specs.Walk.Reference.{Op, Shift, Subst, DShift, DSubst, IOp, IShift, ISubst, Callees}
 use Rattle.walk.specs.Walk.Numbers.{lt_by, le_by, comparison_body}
 use Rattle.walk.specs.Walk.Intervals.{ifinish, idim_above, idim, itransform_body}
@@ -78,8 +78,8 @@ module _ {A : Type 0} {Q P : A → Type 0} where
 
   branch :
       {D : Type 0} {x y x' y' : M A} (d : Dec D) →
-      (D → Gives x x' Q P) → ((D → ⊥) → Gives y y' Q P) → Gives (if d then x else y) (if d then x' else y') Q P
-  unfolding if◌then◌else◌
+      (D → Gives x x' Q P) → ((D → ⊥) → Gives y y' Q P) → Gives (choose d then x else y) (choose d then x' else y') Q P
+  unfolding choose◌then◌else◌
   branch (yes h) f g = f h
   branch (no h) f g = g h
 
@@ -366,10 +366,10 @@ far_falls : (top : ℕ) → Falls (Far top)
 far_falls top = record { next = λ l f. omega arith }
 
 passed : (top k : ℕ) → k < top → Gives (bump_to top k) (one_more k) (λ k'. k' ≡ suc k) AnyValue
-unfolding bump_to one_more if◌then◌else◌
+unfolding bump_to one_more choose◌then◌else◌
 passed top k l = go (dec_lt k top)
   where
-    go : (d : Dec (k < top)) → Gives (if d then pure (suc k) else refuse beyond) (pure (suc k)) (λ k'. k' ≡ suc k) AnyValue
+    go : (d : Dec (k < top)) → Gives (choose d then pure (suc k) else refuse beyond) (pure (suc k)) (λ k'. k' ≡ suc k) AnyValue
     go (yes h) = giving (suc k) tt refl
     go (no h) = absurd (h l)
 

@@ -10,7 +10,7 @@ use Rattle.producer.specs.Machine as C
 use Rattle.producer.specs.Callees.{Callees}
 use Rattle.producer.specs.Equality as P
 use Rattle.walk.specs.Syntax.{Interval, I0, I1, Term, App, Lam, PathApp, Fst, Snd, Context, quote, quote?}
-use Rattle.walk.specs.State.{Thing, term, interval, context, M, refuse, if◌then◌else◌, from◌get◌or◌}
+use Rattle.walk.specs.State.{Thing, term, interval, context, M, refuse, choose◌then◌else◌, from◌get◌or◌}
 use Rattle.walk.specs.Walk.Reference as D
 use Rattle.walk.specs.Walk.Equality as B
 use Rattle.link.specs.Lists.{extends_trans}
@@ -133,7 +133,7 @@ module _ {A E F : Type 0} {o : Before} {xs : List Thing} {Q : F → A → List T
   step_then f z h no_step m n = n
   step_then f z h (a_step {s = s} {t = t} a b e) m n = subst (λ (x : ℕ). Matches o xs (C.◌>>=◌ (f (record { term = s.term; type = s.type; row = x })) k) (h t) Q) (sym e) (m s.term s.type t.row t.term t.type a b)
 
-  quote_then : {i j : ℕ} {t u : Term} {d e : M A} (m n : W E) → Cell i (term t) xs → Cell j (term u) xs → Matches o xs (C.◌>>=◌ m k) d Q → Matches o xs (C.◌>>=◌ n k) e Q → Matches o xs (C.◌>>=◌ (C.same_quote i j m n) k) (if quote? (quote t) (quote u) then d else e) Q
+  quote_then : {i j : ℕ} {t u : Term} {d e : M A} (m n : W E) → Cell i (term t) xs → Cell j (term u) xs → Matches o xs (C.◌>>=◌ m k) d Q → Matches o xs (C.◌>>=◌ n k) e Q → Matches o xs (C.◌>>=◌ (C.same_quote i j m n) k) (choose quote? (quote t) (quote u) then d else e) Q
   unfolding C.same_quote C.◌>>=◌ when◌then◌else◌
   quote_then {i = i} {j = j} m n h l f g = record { holds = λ w s e z. rw (inner (same_quote_of w.cells i j) w) ((same_quote h l f g).holds w s e z) }
     where

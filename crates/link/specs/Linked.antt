@@ -111,10 +111,10 @@ up_is n l = omega arith
 
 -- the guarded walk makes the next number
 pub bumping : {A C : Type 0} {o : Before} {xs : List Thing} {R : C → A → List Thing → Type 0} {m : W C} {d : M ℕ} (g : ℕ → M A) (n : ℕ) → d ≡ bump n → (up n ≡ suc n → Matches o xs m (g (suc n)) R) → Matches o xs m (S.◌>>=◌ d g) R
-unfolding bump_to S.◌>>=◌ S.go_on S.if◌then◌else◌ S.pure S.refuse
+unfolding bump_to S.◌>>=◌ S.go_on S.choose◌then◌else◌ S.pure S.refuse
 bumping {o = o} {xs = xs} {R = R} {m = m} g n q h = rw q (record { holds = λ w s e i. go w s e i (dec_lt n word) })
   where
-    go : (w : Machine) (s : State) → Extends xs s.cells → Holds o w s → (d : Dec (n < word)) → Agree o xs R (m w) (S.go_on ((S.if◌then◌else◌ d (S.pure (suc n)) (S.refuse beyond)) s) g)
+    go : (w : Machine) (s : State) → Extends xs s.cells → Holds o w s → (d : Dec (n < word)) → Agree o xs R (m w) (S.go_on ((S.choose◌then◌else◌ d (S.pure (suc n)) (S.refuse beyond)) s) g)
     go w s e i (yes l) = (h (up_is n l)).holds w s e i
     go w s e i (no l) = by_guard
 

@@ -21,7 +21,7 @@ use Rattle.producer.specs.Callees.{Callees, prepared}
 use Rattle.walk.specs.Syntax.{Interval, Term, Context}
 use Rattle.walk.specs.Refusal as Refusal
 use Rattle.walk.specs.Judgment.{Judgment}
-use Rattle.walk.specs.State.{State, Thing, term, interval, context, inference, key, row_of, of_interval, of_term, of_context, Outcome, done, refused, M, go_on, looking, pure, refuse, if◌then◌else◌, from◌get◌or◌, count, count_all, with_cell, push, with_row, note, with_deepest, recall, with_memory, store}
+use Rattle.walk.specs.State.{State, Thing, term, interval, context, inference, key, row_of, of_interval, of_term, of_context, Outcome, done, refused, M, go_on, looking, pure, refuse, choose◌then◌else◌, from◌get◌or◌, count, count_all, with_cell, push, with_row, note, with_deepest, recall, with_memory, store}
 use Rattle.walk.specs.State as D
 use Rattle.order.specs.Guarded.{beyond}
 use Rattle.link.specs.Lists.{yes?, found_of, first, Extends, same, more, extends_trans, first_found}
@@ -65,8 +65,8 @@ module _ {A B : Type 0} {o : Before} {xs : List Thing} {Q : B → A → List Thi
   stopping n = record { holds = λ w s e h. both_refused e h }
 
   -- a test of the machine and a decision that it makes
-  pub branch : {P : Type 0} {m n : W B} {d e : M A} (t : Bool) (c : Dec P) → t ≡ yes? c → (P → Matches o xs m d Q) → ((P → ⊥) → Matches o xs n e Q) → Matches o xs (when t then m else n) (if c then d else e) Q
-  unfolding when◌then◌else◌ if◌then◌else◌
+  pub branch : {P : Type 0} {m n : W B} {d e : M A} (t : Bool) (c : Dec P) → t ≡ yes? c → (P → Matches o xs m d Q) → ((P → ⊥) → Matches o xs n e Q) → Matches o xs (when t then m else n) (choose c then d else e) Q
+  unfolding when◌then◌else◌ choose◌then◌else◌
   branch true (yes h) q f g = f h
   branch false (yes h) q f g = let z : ◌≡◌ {A = ℕ} 0 1 = cc in absurd (omega arith)
   branch true (no h) q f g = let z : ◌≡◌ {A = ℕ} 0 1 = cc in absurd (omega arith)
@@ -264,10 +264,10 @@ module _ {o : Before} {xs : List Thing} {k n a b c d e : ℕ} {j : Judgment} (sp
   knowing {m} {g} r = record { holds = λ w s i h. known_agrees m g w s i h (r.holds w s i h) }
 
   pub emitting : {l : Refs} {refs : List ℕ} (rule : ℕ) → Cites l refs → Matches o xs (emit rule l k n a b c d e) (D.emit rule refs j) Same
-  unfolding emit D.emit looking new_row if◌then◌else◌ push refuse with_row
-  emitting {refs = refs} rule q = rw q.are (record { holds = λ w s i h. known_agrees (new_row (row_block rule (refs_of refs) k n a b c d e)) (if dec_lt (length s.rows) s.row_room then push (record { rule = rule; refs = refs; judgment = j }) else refuse Refusal.rows) w s i h (new w s i h (dec_lt (length s.rows) s.row_room) (ltb w.state.rows w.state.rowroom) (rw h.counts (less (length s.rows) s.row_room))) })
+  unfolding emit D.emit looking new_row choose◌then◌else◌ push refuse with_row
+  emitting {refs = refs} rule q = rw q.are (record { holds = λ w s i h. known_agrees (new_row (row_block rule (refs_of refs) k n a b c d e)) (choose dec_lt (length s.rows) s.row_room then push (record { rule = rule; refs = refs; judgment = j }) else refuse Refusal.rows) w s i h (new w s i h (dec_lt (length s.rows) s.row_room) (ltb w.state.rows w.state.rowroom) (rw h.counts (less (length s.rows) s.row_room))) })
     where
-      new : (w : Machine) (s : State) → Extends xs s.cells → Holds o w s → (f : Dec (length s.rows < s.row_room)) (t : Bool) → t ≡ yes? f → Agree o xs Same (ifb t (is w.state.rows (add_row (row_block rule (refs_of refs) k n a b c d e) w)) (not Refusal.rows w)) ((if f then push (record { rule = rule; refs = refs; judgment = j }) else refuse Refusal.rows) s)
+      new : (w : Machine) (s : State) → Extends xs s.cells → Holds o w s → (f : Dec (length s.rows < s.row_room)) (t : Bool) → t ≡ yes? f → Agree o xs Same (ifb t (is w.state.rows (add_row (row_block rule (refs_of refs) k n a b c d e) w)) (not Refusal.rows w)) ((choose f then push (record { rule = rule; refs = refs; judgment = j }) else refuse Refusal.rows) s)
       new w s i h (yes l) true g = both_done {a = length s.rows} {b = w.state.rows} {s = with_row (record { rule = rule; refs = refs; judgment = j }) s} i (more_rows h (line (j_lift i spoken)) refl (no_row_children rule (refs_of refs) k n a b c d e) l) (rw h.counts)
       new w s i h (yes l) false g = let z : ◌≡◌ {A = ℕ} 0 1 = cc in absurd (omega arith)
       new w s i h (no l) true g = let z : ◌≡◌ {A = ℕ} 0 1 = cc in absurd (omega arith)
@@ -324,10 +324,10 @@ ended_agrees (both_refused {w = w} {s = s} e h) = both_refused {w = with_convers
 ended_agrees (by_guard {s = s}) = by_guard {s = D.with_conversions (s.conversions - 1) s}
 
 pub converting : {A B : Type 0} {o : Before} {xs : List Thing} {Q : B → A → List Thing → Type 0} {m : W B} {d : M A} → Matches o xs m d Q → Matches o xs (C.converting m) (D.converting d) Q
-unfolding C.converting D.converting D.converted looking if◌then◌else◌ refuse D.with_conversions
+unfolding C.converting D.converting D.converted looking choose◌then◌else◌ refuse D.with_conversions
 converting {o = o} {xs = xs} {Q = Q} {m = m} {d = d} k = record { holds = λ w s e h. go w s e h (dec_lt s.conversions 32) (ltb w.state.conversions 32) (rw h.counts (less s.conversions 32)) }
   where
-    go : (w : Machine) (s : State) → Extends xs s.cells → Holds o w s → (f : Dec (s.conversions < 32)) (b : Bool) → b ≡ yes? f → Agree o xs Q (ifb b (C.ended (m (with_conversions (w.state.conversions + 1) w))) (not Refusal.conversions w)) ((if f then D.converted d else refuse Refusal.conversions) s)
+    go : (w : Machine) (s : State) → Extends xs s.cells → Holds o w s → (f : Dec (s.conversions < 32)) (b : Bool) → b ≡ yes? f → Agree o xs Q (ifb b (C.ended (m (with_conversions (w.state.conversions + 1) w))) (not Refusal.conversions w)) ((choose f then D.converted d else refuse Refusal.conversions) s)
     go w s e h (yes l) true g = ended_agrees (k.holds (with_conversions (w.state.conversions + 1) w) (D.with_conversions (s.conversions + 1) s) e (converted (rw h.counts) h))
     go w s e h (yes l) false g = let z : ◌≡◌ {A = ℕ} 0 1 = cc in absurd (omega arith)
     go w s e h (no l) true g = let z : ◌≡◌ {A = ℕ} 0 1 = cc in absurd (omega arith)

@@ -10,7 +10,7 @@ use Rattle.ast.specs.declared.cells.Shape.TheVariants as form
 use Rattle.producer.specs.Machine.{W, open_cell}
 use Rattle.producer.specs.Machine as C
 use Rattle.walk.specs.Syntax.{Interval, I0, I1, Dim, Neg, Meet, Join, Term, Universe, Var, Nat, Zero, Pi, Lam, App, Path, PathLam, PathApp, Sigma, Pair, Fst, Snd, Context, Nil, Cons, Quote, quote, quote?}
-use Rattle.walk.specs.State.{Thing, term, interval, context, M, if◌then◌else◌, from◌get◌or◌}
+use Rattle.walk.specs.State.{Thing, term, interval, context, M, choose◌then◌else◌, from◌get◌or◌}
 use Rattle.walk.specs.Reader.{Kind, KindDiscrete, k_u, k_v, k_nat, k_zero, k_pi, k_lam, k_app, k_path, k_plam, k_papp, k_sigma, k_pair, k_fst, k_snd, kinds}
 use Rattle.walk.specs.Bytes.{kind_byte}
 use Rattle.walk.specs.Walk.Typing.{view, level, pi_parts, lam_parts, path_parts, plam_parts, sigma_parts, pair_parts}
@@ -303,7 +303,7 @@ quote_test {p = p} {q = q} {t = t} {r = r} h k = decides (eqb p q) (quote? t r) 
     back : t ≡ r → eqb p q ≡ true
     back e = let f : p ≡ q = low_number h (rw (← e) at k) in rw f (eqb_self q)
 
-pub same_quote : {A B : Type 0} {o : Before} {xs : List Thing} {Q : B → A → List Thing → Type 0} {i j : ℕ} {t u : Term} {m n : W B} {d e : M A} → Cell i (term t) xs → Cell j (term u) xs → Matches o xs m d Q → Matches o xs n e Q → Matches o xs (C.same_quote i j m n) (if quote? (quote t) (quote u) then d else e) Q
+pub same_quote : {A B : Type 0} {o : Before} {xs : List Thing} {Q : B → A → List Thing → Type 0} {i j : ℕ} {t u : Term} {m n : W B} {d e : M A} → Cell i (term t) xs → Cell j (term u) xs → Matches o xs m d Q → Matches o xs n e Q → Matches o xs (C.same_quote i j m n) (choose quote? (quote t) (quote u) then d else e) Q
 unfolding C.same_quote same_quote_of
 same_quote {i = i} {j = j} {t = t} {u = u} h k f g = record {
   holds = λ w s e z.

@@ -11,7 +11,7 @@ use Rattle.std.proofs.Math.Bool.{true, false}
 use Rattle.std.proofs.Math.Decide.{ℕ_discrete, dec_lt, dec_le}
 use Rattle.walk.specs.Syntax.{Interval, I0, I1, Dim, Neg, Meet, Join, Term, Universe, Var, Nat, Zero, Pi, Lam, App, Path, PathLam, PathApp, Sigma, Pair, Fst, Snd, Context, Nil, Cons, quote, quotes, quote?}
 use Rattle.walk.specs.Judgment.{Judgment, ctx, dshiftctx, lookup, lt, le, max as is_max, interval, ishift, isubst, shift, subst, dshift, dsubst, has, eq}
-use Rattle.walk.specs.State.{Row, Key, key, key?, Thing, inference, State, Outcome, done, refused, M, go_on, looking, ◌>>=◌, pure, refuse, if◌then◌else◌, from◌get◌or◌, row_of, with_row, push, emit, among, with_cell, count, count_all, recall, Memory, with_memory, store, remember, with_conversions, ended, converted, converting, with_deepest, note, enter, of_term, of_interval, of_context}
+use Rattle.walk.specs.State.{Row, Key, key, key?, Thing, inference, State, Outcome, done, refused, M, go_on, looking, ◌>>=◌, pure, refuse, choose◌then◌else◌, from◌get◌or◌, row_of, with_row, push, emit, among, with_cell, count, count_all, recall, Memory, with_memory, store, remember, with_conversions, ended, converted, converting, with_deepest, note, enter, of_term, of_interval, of_context}
 use Rattle.walk.specs.Walk.Reference.{Op, Shift, Subst, DShift, DSubst, IOp, IShift, ISubst, Step, Callees, of_op, of_iop}
 use Rattle.walk.specs.Walk.Numbers.{lt_by, le_by, larger, comparison_body, max_body}
 use Rattle.walk.specs.Walk.Intervals.{itransformed, ifinish, idim_above, idim, itransform_body, interval_body}
@@ -227,8 +227,8 @@ pub giving : {A : Type 0} {b : ℕ} {Q : A → ℕ → Type 0} (a : A) → ((c :
 unfolding pure
 giving a q = record { holds = λ s e g. fine e g (q (length s.rows) e); same = λ s e g. refl }
 
-pub branch : {P A : Type 0} {b : ℕ} {Q : A → ℕ → Type 0} {x y x' y' : M A} (d : Dec P) → (P → Within b x x' Q) → ((P → ⊥) → Within b y y' Q) → Within b (if d then x else y) (if d then x' else y') Q
-unfolding if◌then◌else◌
+pub branch : {P A : Type 0} {b : ℕ} {Q : A → ℕ → Type 0} {x y x' y' : M A} (d : Dec P) → (P → Within b x x' Q) → ((P → ⊥) → Within b y y' Q) → Within b (choose d then x else y) (choose d then x' else y') Q
+unfolding choose◌then◌else◌
 branch (yes h) f g = f h
 branch (no h) f g = g h
 
@@ -243,20 +243,20 @@ small_at {j = j} (here {r = r} {rs = rs} e q) (row_on h hs) = let l : Below (33 
 small_at {j = j} (there {rs = rs} h) (row_on l hs) = below_more (32 + length rs) (32 + suc (length rs)) j (omega arith) (small_at h hs)
 
 pub emitted : {b : ℕ} (j : Judgment) (rule : ℕ) (refs : List ℕ) → Below (33 + b) j → Within b (emit rule refs j) (emit rule refs j) (λ _ c. Below (32 + c) j)
-unfolding emit looking pure push with_row refuse if◌then◌else◌ from◌get◌or◌
+unfolding emit looking pure push with_row refuse choose◌then◌else◌ from◌get◌or◌
 emitted {b} j rule refs l = record { holds = λ s e g. go s e g (row_of j s.rows) refl (dec_lt (length s.rows) s.row_room); same = λ s e g. refl }
   where
     row : Row
     row = record { rule = rule; refs = refs; judgment = j }
 
-    go : (s : State) → b ≤ length s.rows → Fit s → (o : Option ℕ) → row_of j s.rows ≡ o → (d : Dec (length s.rows < s.row_room)) → After b (λ _ c. Below (32 + c) j) ((from o get pure or (if d then push row else refuse Refusal.rows)) s)
+    go : (s : State) → b ≤ length s.rows → Fit s → (o : Option ℕ) → row_of j s.rows ≡ o → (d : Dec (length s.rows < s.row_room)) → After b (λ _ c. Below (32 + c) j) ((from o get pure or (choose d then push row else refuse Refusal.rows)) s)
     go s e g (some n) q d = fine e g (small_at (row_found j s.rows n q) g.small)
     go s e g none q (yes h) = fine {s = with_row row s} (omega arith) (record { small = row_on {r = row} {rs = s.rows} (below_more (33 + b) (33 + length s.rows) j (omega arith) l) g.small; held = g.held; remembered = remembered_more {b = length s.rows} {c = suc (length s.rows)} (omega arith) g.remembered; room = omega arith; cap = g.cap; low = g.low }) (below_more (33 + b) (32 + suc (length s.rows)) j (omega arith) l)
     go s e g none q (no h) = stopped {n = Refusal.rows} (λ z. omega arith) e g
 
 -- the guard lets pass what was handed about
-passed : {P A : Type 0} {b : ℕ} {Q : A → ℕ → Type 0} {x e : M A} (d : Dec P) (y : M A) → (P → Within b x e Q) → ((P → ⊥) → ⊥) → Within b (if d then x else y) e Q
-unfolding if◌then◌else◌
+passed : {P A : Type 0} {b : ℕ} {Q : A → ℕ → Type 0} {x e : M A} (d : Dec P) (y : M A) → (P → Within b x e Q) → ((P → ⊥) → ⊥) → Within b (choose d then x else y) e Q
+unfolding choose◌then◌else◌
 passed (yes h) y f g = f h
 passed (no h) y f g = absurd (g h)
 
@@ -345,7 +345,7 @@ convert {b = b} {Q = Q} {m = m} {m' = m'} h = record { holds = λ s e g. (go s).
     inner : Within b (converted m) (converted m') Q
     inner = record { holds = λ s e g. ended_after (h.holds (with_conversions (s.conversions + 1) s) e g); same = λ s e g. ap ended (h.same (with_conversions (s.conversions + 1) s) e g) }
 
-    go : (s : State) → Within b (if dec_lt s.conversions 32 then converted m else refuse Refusal.conversions) (if dec_lt s.conversions 32 then converted m' else refuse Refusal.conversions) Q
+    go : (s : State) → Within b (choose dec_lt s.conversions 32 then converted m else refuse Refusal.conversions) (choose dec_lt s.conversions 32 then converted m' else refuse Refusal.conversions) Q
     go s = branch (dec_lt s.conversions 32) (λ _. inner) (λ _. refusing (λ z. omega arith))
 
 pub entering : {A : Type 0} {b : ℕ} {Q : A → ℕ → Type 0} {m m' : M A} (left : ℕ) {xs : List Thing} → Cells (32 + b) xs → ((c : ℕ) → b ≤ c → Within c m m' Q) → Within b (enter left xs m) (enter left xs m') Q

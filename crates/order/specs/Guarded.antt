@@ -2,7 +2,7 @@
 -- it is the walk, for every top from `largest` on.
 use Rattle.std.specs.Prelude.{ℕ, suc}
 use Rattle.std.proofs.Math.Decide.{dec_lt}
-use Rattle.walk.specs.State.{M, pure, refuse, if◌then◌else◌}
+use Rattle.walk.specs.State.{M, pure, refuse, choose◌then◌else◌}
 use Rattle.walk.specs.Walk.Reference.{Callees}
 use Rattle.walk.specs.Walk.{callees_by}
 
@@ -12,7 +12,7 @@ beyond = 0
 
 -- one more, if it does not pass `top`
 unfoldable pub bump_to : ℕ → ℕ → M ℕ
-bump_to top n = if dec_lt n top then pure (suc n) else refuse beyond
+bump_to top n = choose dec_lt n top then pure (suc n) else refuse beyond
 
 -- the functions with n entries left
 abbrev pub guarded_to : ℕ → ℕ → Callees

@@ -8,7 +8,7 @@ use Rattle.std.proofs.Math.Decide.{dec_lt}
 use Rattle.walk.specs.Syntax.{Interval, I0, I1, Dim, Neg, Meet, Join, Term, Universe, Var, Nat, Zero, Pi, Lam, App, Path, PathLam, PathApp, Sigma, Pair, Fst, Snd, Context, Nil, Cons}
 use Rattle.walk.specs.Judgment.{Judgment}
 use Rattle.walk.specs.Refusal as Refusal
-use Rattle.walk.specs.State.{Row, Key, Thing, inference, Memory, State, Outcome, done, refused, M, go_on, looking, ◌>>=◌, pure, refuse, if◌then◌else◌, from◌get◌or◌, row_of, with_row, push, emit, among, with_cell, count, count_all, with_memory, store, remember, with_conversions, ended, converted, converting, with_deepest, note, enter}
+use Rattle.walk.specs.State.{Row, Key, Thing, inference, Memory, State, Outcome, done, refused, M, go_on, looking, ◌>>=◌, pure, refuse, choose◌then◌else◌, from◌get◌or◌, row_of, with_row, push, emit, among, with_cell, count, count_all, with_memory, store, remember, with_conversions, ended, converted, converting, with_deepest, note, enter}
 use Rattle.walk.specs.Walk.Reference.{Op, Shift, Subst, DShift, DSubst, IOp, IShift, ISubst, Callees}
 use Rattle.walk.specs.Walk.Numbers.{lt_by, le_by, comparison_body, max_body}
 use Rattle.walk.specs.Walk.Intervals.{ifinish, idim_above, idim, itransform_body, interval_body}
@@ -99,8 +99,8 @@ pub refuses : {A : Type 0} (n : ℕ) → Leads {A = A} (refuse n)
 unfolding refuse
 refuses n = record { leads = λ s. later_refl s }
 
-pub branches : {P A : Type 0} {x y : M A} (d : Dec P) → Leads x → Leads y → Leads (if d then x else y)
-unfolding if◌then◌else◌
+pub branches : {P A : Type 0} {x y : M A} (d : Dec P) → Leads x → Leads y → Leads (choose d then x else y)
+unfolding choose◌then◌else◌
 branches (yes p) h k = h
 branches (no p) h k = k
 
@@ -114,10 +114,10 @@ unfolding looking
 looks h = record { leads = λ s. (h s).leads s }
 
 pub emits : (rule : ℕ) (refs : List ℕ) (j : Judgment) → Leads (emit rule refs j)
-unfolding emit looking pure push with_row refuse if◌then◌else◌ from◌get◌or◌
+unfolding emit looking pure push with_row refuse choose◌then◌else◌ from◌get◌or◌
 emits rule refs j = record { leads = λ s. go s (row_of j s.rows) (dec_lt (length s.rows) s.row_room) }
   where
-    go : (s : State) (o : Option ℕ) (d : Dec (length s.rows < s.row_room)) → Later s (left ((from o get pure or (if d then push (record { rule = rule; refs = refs; judgment = j }) else refuse Refusal.rows)) s))
+    go : (s : State) (o : Option ℕ) (d : Dec (length s.rows < s.row_room)) → Later s (left ((from o get pure or (choose d then push (record { rule = rule; refs = refs; judgment = j }) else refuse Refusal.rows)) s))
     go s (some n) d = later_refl s
     go s none (yes h) = adds s s.deepest (more same) no_longer no_longer (λ _. h) (λ h. h) (omega arith) (λ h. h)
     go s none (no h) = later_refl s

@@ -9,7 +9,7 @@ use Rattle.std.proofs.Common.{arith}
 use Rattle.walk.specs.Syntax.{Interval, I0, I1, Dim, Neg, Meet, Join, Term, Universe, Var, Nat, Zero, Pi, Lam, App, Path, PathLam, PathApp, Sigma, Pair, Fst, Snd, Context, Nil, Cons}
 use Rattle.walk.specs.Judgment.{Judgment}
 use Rattle.walk.specs.Refusal as Refusal
-use Rattle.walk.specs.State.{Thing, State, Outcome, done, refused, M, go_on, looking, ◌>>=◌, pure, refuse, if◌then◌else◌, from◌get◌or◌, row_of, push, emit, among, with_cell, count, count_all, note, enter}
+use Rattle.walk.specs.State.{Thing, State, Outcome, done, refused, M, go_on, looking, ◌>>=◌, pure, refuse, choose◌then◌else◌, from◌get◌or◌, row_of, push, emit, among, with_cell, count, count_all, note, enter}
 use Rattle.walk.specs.Walk.Reference.{Op, Shift, Subst, DShift, DSubst, IOp, IShift, ISubst, Callees}
 use Rattle.walk.specs.Walk.Numbers.{lt_by, le_by, comparison_body, max_body}
 use Rattle.walk.specs.Walk.Intervals.{ifinish, idim_above, idim, itransform_body, interval_body}
@@ -78,16 +78,16 @@ wider {A = A} {P = P} {Q = Q} {m = m} f h = record { only = λ s. go (m s) (h.on
     go (done a s) p = tt
     go (refused n s) p = f n p
 
-branches : {D A : Type 0} {P : ℕ → Type 0} {x y : M A} (d : Dec D) → (D → Only P x) → ((D → ⊥) → Only P y) → Only P (if d then x else y)
-unfolding if◌then◌else◌
+branches : {D A : Type 0} {P : ℕ → Type 0} {x y : M A} (d : Dec D) → (D → Only P x) → ((D → ⊥) → Only P y) → Only P (choose d then x else y)
+unfolding choose◌then◌else◌
 branches (yes p) h k = h p
 branches (no p) h k = k p
 
 emits : (rule : ℕ) (refs : List ℕ) (j : Judgment) → Only Full (emit rule refs j)
-unfolding emit looking pure push refuse if◌then◌else◌ from◌get◌or◌
+unfolding emit looking pure push refuse choose◌then◌else◌ from◌get◌or◌
 emits rule refs j = record { only = λ s. go s (row_of j s.rows) (dec_lt (length s.rows) s.row_room) }
   where
-    go : (s : State) (o : Option ℕ) (d : Dec (length s.rows < s.row_room)) → Passes Full ((from o get pure or (if d then push (record { rule = rule; refs = refs; judgment = j }) else refuse Refusal.rows)) s)
+    go : (s : State) (o : Option ℕ) (d : Dec (length s.rows < s.row_room)) → Passes Full ((from o get pure or (choose d then push (record { rule = rule; refs = refs; judgment = j }) else refuse Refusal.rows)) s)
     go s (some n) d = tt
     go s none (yes h) = tt
     go s none (no h) = no_row

@@ -9,7 +9,7 @@ use Rattle.walk.specs.Judgment.{Judgment, judgment?, has}
 use Rattle.walk.specs.Rules.{Follows}
 use Rattle.walk.specs.Demand.{At, here, there, Cites, none_cited, ◌also◌, Extends, same, more}
 use Rattle.walk.specs.Refusal as Refusal
-use Rattle.walk.specs.State.{Row, Memory, Key, key, key?, Thing, inference, State, Outcome, done, refused, M, go_on, looking, ◌>>=◌, pure, refuse, if◌then◌else◌, from◌get◌or◌, row_of, with_row, push, emit, among, with_cell, count, count_all, recall, with_memory, store, remember, with_conversions, ended, converted, converting, with_deepest, note, enter}
+use Rattle.walk.specs.State.{Row, Memory, Key, key, key?, Thing, inference, State, Outcome, done, refused, M, go_on, looking, ◌>>=◌, pure, refuse, choose◌then◌else◌, from◌get◌or◌, row_of, with_row, push, emit, among, with_cell, count, count_all, recall, with_memory, store, remember, with_conversions, ended, converted, converting, with_deepest, note, enter}
 
 -- a row over the rows below it
 pub record Stands (r : Row) (rs : List Row) : Type 0 where
@@ -96,8 +96,8 @@ pub giving : {A : Type 0} {rs : List Row} {Q : A → List Row → Type 0} (a : A
 unfolding pure
 giving a q = record { holds = λ s e g. fine e g (q s.rows e) }
 
-pub branch : {P A : Type 0} {rs : List Row} {Q : A → List Row → Type 0} {x y : M A} (d : Dec P) → (P → Keeps rs x Q) → ((P → ⊥) → Keeps rs y Q) → Keeps rs (if d then x else y) Q
-unfolding if◌then◌else◌
+pub branch : {P A : Type 0} {rs : List Row} {Q : A → List Row → Type 0} {x y : M A} (d : Dec P) → (P → Keeps rs x Q) → ((P → ⊥) → Keeps rs y Q) → Keeps rs (choose d then x else y) Q
+unfolding choose◌then◌else◌
 branch (yes h) f g = f h
 branch (no h) f g = g h
 
@@ -128,10 +128,10 @@ not_found j (r ∷ rs) e n h = go (judgment? j r.judgment) (λ q. not_found j rs
 
 -- a row that follows from rows that stand there
 pub emitted : {rs : List Row} {rule : ℕ} {refs : List ℕ} {js : List Judgment} {j : Judgment} → Cites rs refs js → Follows rule js j → Keeps rs (emit rule refs j) (λ n. At n j)
-unfolding emit looking pure push with_row refuse if◌then◌else◌ from◌get◌or◌
+unfolding emit looking pure push with_row refuse choose◌then◌else◌ from◌get◌or◌
 emitted {rs} {rule} {refs} {js} {j} cs f = record { holds = λ s e g. go s e g (row_of j s.rows) refl (dec_lt (length s.rows) s.row_room) }
   where
-    go : (s : State) → Extends rs s.rows → Good s → (o : Option ℕ) → row_of j s.rows ≡ o → (d : Dec (length s.rows < s.row_room)) → After rs (λ n. At n j) ((from o get pure or (if d then push (record { rule = rule; refs = refs; judgment = j }) else refuse Refusal.rows)) s)
+    go : (s : State) → Extends rs s.rows → Good s → (o : Option ℕ) → row_of j s.rows ≡ o → (d : Dec (length s.rows < s.row_room)) → After rs (λ n. At n j) ((from o get pure or (choose d then push (record { rule = rule; refs = refs; judgment = j }) else refuse Refusal.rows)) s)
     go s e g (some n) q d = fine e g (found j s.rows n q)
     go s e g none q (yes h) =
         fine (more e)

@@ -5,7 +5,7 @@ use Rattle.walk.specs.Syntax.{Interval, I0, I1, Dim, Neg, Meet, Join, Term, Univ
 use Rattle.walk.specs.Judgment.{Judgment, eq}
 use Rattle.walk.specs.Rule as R
 use Rattle.walk.specs.Refusal as Refusal
-use Rattle.walk.specs.State.{M, ◌>>=◌, pure, refuse, if◌then◌else◌, from◌get◌or◌, emit}
+use Rattle.walk.specs.State.{M, ◌>>=◌, pure, refuse, choose◌then◌else◌, from◌get◌or◌, emit}
 use Rattle.walk.specs.Walk.Reference.{Subst, DSubst, Step, Callees}
 use Rattle.walk.specs.Walk.Typing.{level, pi_parts, lam_parts, path_parts, plam_parts, sigma_parts, pair_parts, as_path, as_sigma}
 
@@ -89,7 +89,7 @@ rounds (ℕ.suc left) c d g t ty current evidence = do
   next ← c.reduce d g current
   from next
       get (λ step.
-      if quote? (quote step.type) (quote ty)
+      choose quote? (quote step.type) (quote ty)
       then (do
         _ ← c.check d g step.term ty
         evidence' ← emit R.eq_trans (evidence ∷ step.row ∷ []) (equation d g t step.term ty)
@@ -107,12 +107,12 @@ unfoldable pub equal_body : Callees → ℕ → Context → Term → Term → Te
 equal_body c d g a b ty = do
   typed ← c.check d g a ty
   _ ← c.check d g b ty
-  if quote? (quote a) (quote b)
+  choose quote? (quote a) (quote b)
       then emit R.eq_refl (typed ∷ []) (equation d g a b ty)
       else do
         (left, l) ← c.normalize d g a ty
         (right, r) ← c.normalize d g b ty
-        if quote? (quote left) (quote right)
+        choose quote? (quote left) (quote right)
             then (do
               reverse ← emit R.eq_sym (r ∷ []) (equation d g right b ty)
               emit R.eq_trans (l ∷ reverse ∷ []) (equation d g a b ty))

@@ -5,7 +5,7 @@ use Rattle.walk.specs.Syntax.{Interval, I0, I1, Dim, Neg, Meet, Join}
 use Rattle.walk.specs.Judgment.{Judgment, interval, ishift, isubst}
 use Rattle.walk.specs.Rule as R
 use Rattle.walk.specs.Refusal as Refusal
-use Rattle.walk.specs.State.{M, ◌>>=◌, pure, refuse, if◌then◌else◌, of_interval, count_all, emit}
+use Rattle.walk.specs.State.{M, ◌>>=◌, pure, refuse, choose◌then◌else◌, of_interval, count_all, emit}
 use Rattle.walk.specs.Walk.Reference.{IOp, IShift, ISubst, Callees}
 
 abbrev pub itransformed : Interval → IOp → Interval → Judgment
@@ -33,14 +33,14 @@ idim_above c (ℕ.suc n) k q = do
 
 unfoldable pub idim : Callees → ℕ → IOp → M (Interval × ℕ)
 idim c n (IShift k) =
-    if dec_lt n k
+    choose dec_lt n k
     then (c.comparison n k true >>= λ x. ifinish (Dim n) (IShift k) (Dim n) R.ishift_dim_lt (x ∷ []))
     else (c.comparison k n false >>= λ x. c.more n >>= λ n'. ifinish (Dim n) (IShift k) (Dim n') R.ishift_dim_ge (x ∷ []))
 idim c n (ISubst k q) =
-    if ℕ_discrete n k
+    choose ℕ_discrete n k
     then ifinish (Dim n) (ISubst k q) q R.isubst_dim_hit []
     else
-    (if dec_lt n k
+    (choose dec_lt n k
     then (c.comparison n k true >>= λ x. ifinish (Dim n) (ISubst k q) (Dim n) R.isubst_dim_lt (x ∷ []))
     else idim_above c n k q)
 

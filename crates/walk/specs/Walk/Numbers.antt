@@ -4,7 +4,7 @@ use Rattle.std.proofs.Math.Decide.{dec_lt, dec_le}
 use Rattle.walk.specs.Judgment.{Judgment, lt, le, max}
 use Rattle.walk.specs.Rule as R
 use Rattle.walk.specs.Refusal as Refusal
-use Rattle.walk.specs.State.{M, ◌>>=◌, refuse, if◌then◌else◌, emit}
+use Rattle.walk.specs.State.{M, ◌>>=◌, refuse, choose◌then◌else◌, emit}
 use Rattle.walk.specs.Walk.Reference.{Callees}
 
 abbrev pub compared : Bool → ℕ → ℕ → Judgment
@@ -27,8 +27,8 @@ le_by c (ℕ.suc m) (ℕ.suc n) = do
   emit R.le_s (x ∷ []) (le (suc m) (suc n))
 
 unfoldable pub comparison_body : Callees → ℕ → ℕ → Bool → M ℕ
-comparison_body c m n true = if dec_lt m n then lt_by c m n else refuse Refusal.dimension
-comparison_body c m n false = if dec_le m n then le_by c m n else refuse Refusal.dimension
+comparison_body c m n true = choose dec_lt m n then lt_by c m n else refuse Refusal.dimension
+comparison_body c m n false = choose dec_le m n then le_by c m n else refuse Refusal.dimension
 
 -- the larger of two numbers, as the rules of max have it
 abbrev pub larger : ℕ → ℕ → ℕ

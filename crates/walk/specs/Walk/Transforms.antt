@@ -5,7 +5,7 @@ use Rattle.walk.specs.Syntax.{Interval, Term, Universe, Var, Nat, Zero, Pi, Lam,
 use Rattle.walk.specs.Judgment.{Judgment, shift, subst, dshift, dsubst}
 use Rattle.walk.specs.Rule as R
 use Rattle.walk.specs.Refusal as Refusal
-use Rattle.walk.specs.State.{M, ◌>>=◌, pure, refuse, if◌then◌else◌, of_term, count_all, emit}
+use Rattle.walk.specs.State.{M, ◌>>=◌, pure, refuse, choose◌then◌else◌, of_term, count_all, emit}
 use Rattle.walk.specs.Walk.Reference.{Op, Shift, Subst, DShift, DSubst, IShift, ISubst, Callees}
 
 -- under a binder, of a variable (false) or of a dimension (true); with the rows that this cites
@@ -101,14 +101,14 @@ tvar_above c (ℕ.suc n) k r = do
 
 unfoldable pub tvar : Callees → ℕ → Op → M (Term × ℕ)
 tvar c n (Shift k) =
-    if dec_lt n k
+    choose dec_lt n k
     then (c.comparison n k true >>= λ x. finish (Var n) (Shift k) (Var n) R.shift_v_lt (x ∷ []))
     else (c.comparison k n false >>= λ x. c.more n >>= λ n'. finish (Var n) (Shift k) (Var n') R.shift_v_ge (x ∷ []))
 tvar c n (Subst k r) =
-    if ℕ_discrete n k
+    choose ℕ_discrete n k
     then finish (Var n) (Subst k r) r R.subst_v_hit []
     else
-    (if dec_lt n k
+    (choose dec_lt n k
     then (c.comparison n k true >>= λ x. finish (Var n) (Subst k r) (Var n) R.subst_v_lt (x ∷ []))
     else tvar_above c n k r)
 tvar c n (DShift k) = finish (Var n) (DShift k) (Var n) R.dshift_v []

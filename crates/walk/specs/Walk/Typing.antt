@@ -7,7 +7,7 @@ use Rattle.walk.specs.Judgment.{Judgment, has}
 use Rattle.walk.specs.Reader.{Kind, KindDiscrete, k_u, k_v, k_nat, k_zero, k_pi, k_lam, k_app, k_path, k_plam, k_papp, k_sigma, k_pair, k_fst, k_snd}
 use Rattle.walk.specs.Rule as R
 use Rattle.walk.specs.Refusal as Refusal
-use Rattle.walk.specs.State.{M, looking, ◌>>=◌, pure, refuse, if◌then◌else◌, from◌get◌or◌, of_term, key, count_all, emit, recall, remember, converting}
+use Rattle.walk.specs.State.{M, looking, ◌>>=◌, pure, refuse, choose◌then◌else◌, from◌get◌or◌, of_term, key, count_all, emit, recall, remember, converting}
 use Rattle.walk.specs.Walk.Reference.{Subst, DSubst, Found, Callees}
 use Rattle.walk.specs.Walk.Numbers.{larger}
 
@@ -81,7 +81,7 @@ unfoldable pub expose_body : Callees → ℕ → Context → Term → Term → �
 expose_body c d g t ty typed = do
   (l, _) ← c.universe d g ty
   (normal, equality) ← c.normalize d g ty (Universe l)
-  if quote? (quote normal) (quote ty)
+  choose quote? (quote normal) (quote ty)
       then pure (normal, typed)
       else do
         formed ← c.check d g normal (Universe l)
@@ -100,12 +100,12 @@ universe_body c d g t = do
 unfoldable pub check_body : Callees → ℕ → Context → Term → Term → M ℕ
 check_body c d g t expected = do
   (actual, row) ← c.infer d g t
-  if quote? (quote actual) (quote expected)
+  choose quote? (quote actual) (quote expected)
       then pure row
       else converting do
         (i, _) ← c.universe d g actual
         (j, formed) ← c.universe d g expected
-        if ℕ_discrete i j
+        choose ℕ_discrete i j
             then (do
               equality ← c.equal d g actual expected (Universe i)
               emit R.type_conv (row ∷ equality ∷ formed ∷ []) (typing d g t expected))
@@ -115,7 +115,7 @@ check_body c d g t expected = do
 unfoldable pub headed : Kind → Callees → ℕ → Context → Term → M (Term × ℕ)
 headed k c d g t = do
   (ty, row) ← c.infer d g t
-  if KindDiscrete (view ty).kind k then pure (ty, row) else converting (c.expose d g t ty row)
+  choose KindDiscrete (view ty).kind k then pure (ty, row) else converting (c.expose d g t ty row)
 
 -- that type taken apart: its parts, and the row; refused where it is not of the kind even then
 unfoldable pub as_parts : {A : Type 0} → Kind → (Term → Option A) → ℕ → Callees → ℕ → Context → Term → M (A × ℕ)
