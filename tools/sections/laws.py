@@ -2,8 +2,9 @@
 from .common import INTERVALS, TERMS, is_number, node, parts_of, section
 from .link import back, read_node
 
-SPECS = 'crates/laws/specs/'
-TRANSFORMS, SQUARES, TOPS, CELLS = (SPECS + f + '.antt' for f in ('Transforms', 'Squares', 'Tops', 'Cells'))
+SPECS, PROOFS = 'crates/laws/specs/', 'crates/laws/proofs/'
+TRANSFORMS, CELLS = (SPECS + f + '.antt' for f in ('Transforms', 'Cells'))
+SQUARES, TOPS = (PROOFS + f + '.antt' for f in ('Squares', 'Tops'))
 
 BINDER = {'variable': 'false', 'dimension': 'true'}
 

@@ -3,8 +3,9 @@ the same for all. crates/producer: what makes a cell of each kind."""
 from .common import (ALL, CONTEXTS, INTERVALS, JUDGMENTS, NODE_TYPES, TERMS, applied, cells, for_both, is_number, judgment, nested, node, parts_of,
                      section, vars_of)
 
-SPECS = 'crates/link/specs/'
-TABLE, ASKED, BACK, CALLS, STORE, LINKED, OPEN = (SPECS + f + '.antt' for f in ('Table', 'Asked', 'Back', 'Calls', 'Store', 'Linked', 'Open'))
+SPECS, PROOFS = 'crates/link/specs/', 'crates/link/proofs/'
+TABLE, ASKED, STORE, LINKED, OPEN = (SPECS + f + '.antt' for f in ('Table', 'Asked', 'Store', 'Linked', 'Open'))
+BACK, CALLS = (PROOFS + f + '.antt' for f in ('Back', 'Calls'))
 MACHINE = 'crates/producer/specs/Machine.antt'
 
 

@@ -2,7 +2,8 @@
 from .common import INTERVALS, TERMS, applied, for_both, is_number, node, parts_of, section, vars_of
 
 SPECS = 'crates/order/specs/'
-NUMBERS, SENT, BOUND = (SPECS + f + '.antt' for f in ('Numbers', 'Sent', 'Bound'))
+NUMBERS, SENT = (SPECS + f + '.antt' for f in ('Numbers', 'Sent'))
+BOUND = 'crates/order/proofs/Bound.antt'
 
 
 def largest(tops):

@@ -2,8 +2,8 @@
 proved that the table is the rules."""
 from .common import CONTEXTS, INTERVALS, JUDGMENTS, RULES, TERMS, antt_name, applied, judgment, section, shown
 
-SPECS = 'crates/schemas/specs/'
-CODE, TABLE, FOLLOWS = (SPECS + f + '.antt' for f in ('Code', 'Table', 'Follows'))
+SPECS, PROOFS = 'crates/schemas/specs/', 'crates/schemas/proofs/'
+CODE, TABLE, FOLLOWS = SPECS + 'Code.antt', SPECS + 'Table.antt', PROOFS + 'Follows.antt'
 
 # How a part of each sort is written, which letter asks for one when it is read, and what it is when read.
 OF = {'number': 'leaf', 'term': 'of_quote', 'interval': 'of_interval', 'context': 'of_context'}
@@ -71,4 +71,4 @@ BY = [c for rule in RULES for c in constructors(rule)]
 section(FOLLOWS, 'each line holds')(lambda: ['(λ e. %s) and' % by for by in BY])
 section(FOLLOWS, 'each rule has its line')(lambda: ['complete %s = find lines %d tt refl refl' % (by, n) for n, by in enumerate(BY)])
 
-section(SPECS + 'Concludes.antt', 'kinds by name')(lambda: ['begins %s = refl' % judgment(j) for j in JUDGMENTS])
+section(PROOFS + 'Concludes.antt', 'kinds by name')(lambda: ['begins %s = refl' % judgment(j) for j in JUDGMENTS])

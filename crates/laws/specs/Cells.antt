@@ -12,8 +12,8 @@ use Rattle.link.specs.Things.{Cell, cell_nth}
 use Rattle.link.specs.Tables.{Shape, s_universe, s_var, s_nat, s_zero, s_pi, s_lam, s_app, s_path, s_plam, s_papp, s_sigma, s_pair, s_fst, s_snd}
 use Rattle.link.specs.Holds.{Before, Holds}
 use Rattle.link.specs.Table.{◌>>=◌, kind_word, part, lower, interval_at, CellsWords}
-use Rattle.link.specs.Back.{lowered, cells_told, inner, part_at}
-use Rattle.link.specs.Back as B
+use Rattle.link.proofs.Back.{lowered, cells_told, inner, part_at}
+use Rattle.link.proofs.Back as B
 
 -- as `link`'s Table reads a quote, with the parts that quotes leave out
 unfoldable pub term_by : (ℕ → Option Term) → (ℕ → Option Interval) → Kind → (a b c : ℕ) → Option Term

@@ -12,7 +12,7 @@ use Rattle.link.specs.Lists.{Nth, here, there}
 use Rattle.link.specs.Things.{Cell, cell_nth}
 use Rattle.link.specs.Holds.{Before, Holds}
 use Rattle.link.specs.Asked.{ask_all, start}
-use Rattle.link.specs.Runs.{runs}
+use Rattle.link.proofs.Runs.{runs}
 
 -- words that stand for a state, with no number above 65,535 in a cell
 pub record Store (w : Machine) : Type 0 where

@@ -1,5 +1,5 @@
 -- The model over words (the crate `producer`) answers what the definition of the run answers, and its words hold the run's table.
--- What a contract may cite: Things, Asked, Table, Words. The rest is the proof.
+-- What a contract may cite: Things, Asked, Table, Words. The rest is the proof, with what stands in proofs/.
 
 -- what words stand for
 pub mod Lists
@@ -22,7 +22,6 @@ pub mod Equality
 pub mod Link
 -- calls, and a list of them
 pub mod Asked
-pub mod Calls
 pub mod Ends
 pub mod Runs
 -- the table, read back

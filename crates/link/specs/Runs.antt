@@ -1,33 +1,15 @@
--- A list of calls over words: each call's four answer words say what the walk answers, and the words that are left stand for
--- the walk's state: `runs`.
-use Rattle.std.specs.Prelude.{ℕ, ◌+◌, ◌≤◌, ◌≡◌, refl, List, [], ◌∷◌, length}
-use Rattle.std.proofs.Common.{sym, subst, arith}
-use Rattle.std.proofs.Math.Path.{ap}
-use Rattle.ast.specs.Cells.{quote_of}
-use Rattle.producer.specs.declared.State.{State as Counts}
+-- What the answer words of a list of calls say of the walk's answers, and what state is left. That so it is is proved in proofs/Runs: `runs`.
+use Rattle.std.specs.Prelude.{ℕ, ◌≡◌, List, [], ◌∷◌}
 use Rattle.producer.specs.Machine.{Machine, Result}
-use Rattle.producer.specs.Callees.{Callees}
-use Rattle.producer.specs.Calls.{callees}
-use Rattle.walk.specs.Syntax.{Term, Context, Nil, quote}
-use Rattle.walk.specs.State.{State, Thing, term, Outcome, with_deepest}
-use Rattle.walk.specs.Walk.{callees as walk_callees}
-use Rattle.walk.specs.Reader.{Code, c_context, c_universe, c_infer, c_check, c_normalise, c_equal, Call}
-use Rattle.walk.specs.Limits.{Sized, fits, scope_over, size_over, index_over, size_call}
-use Rattle.walk.specs.Run.{no_result, a_level, a_term, Answer, answered, scope_of, nth, walk, play_sized, play, play_all}
+use Rattle.walk.specs.Syntax.{Term, quote}
+use Rattle.walk.specs.State.{State, Thing}
+use Rattle.walk.specs.Run.{no_result, a_level, a_term, Answer}
 use Rattle.walk.specs.Run as R
-use Rattle.order.specs.Numbers.{context_top}
-use Rattle.order.specs.Guarded.{guarded}
 use Rattle.order.specs.Bound.{Fit}
-use Rattle.order.specs.Sent.{Lows, nth_low, scope_low, let_in}
-use Rattle.order.specs.Never.{start_fits}
-use Rattle.link.specs.Lists.{Extends, same, extends_trans}
-use Rattle.link.specs.Things.{a_quote, Cell, Low, low_lift}
-use Rattle.link.specs.Store.{quote_is}
-use Rattle.link.specs.Holds.{Before, Holds, read_cell}
-use Rattle.link.specs.Linked.{Linked}
-use Rattle.link.specs.Link.{ready, link}
-use Rattle.link.specs.Asked.{Said, told, ask, turned, afresh, ask_sized, ask_all, start}
-use Rattle.link.specs.Ends.{starts, Ends, in_value, in_refusal, contexted, levelled, inferred, checked, normalised, equalled}
+use Rattle.link.specs.Lists.{Extends}
+use Rattle.link.specs.Things.{a_quote, Low}
+use Rattle.link.specs.Holds.{Before, Holds}
+use Rattle.link.specs.Asked.{Said}
 
 -- the result word: a level, the lowest cell with the quote of a term, or 0
 pub data Results (xs : List Thing) : ℕ → R.Result → Type 0 where
@@ -41,14 +23,6 @@ pub record Says (xs : List Thing) (a : Said) (b : Answer) : Type 0 where
   pub deepest : a.deepest ≡ b.deepest
   pub result : Results xs a.result b.result
 
-results_lift : {xs ys : List Thing} {n : ℕ} {r : R.Result} → Extends xs ys → Results xs n r → Results ys n r
-results_lift e no_word = no_word
-results_lift e (level_word q) = level_word q
-results_lift e (term_word l) = term_word (low_lift e l)
-
-says_lift : {xs ys : List Thing} {a : Said} {b : Answer} → Extends xs ys → Says xs a b → Says ys a b
-says_lift e s = record { number = s.number; row = s.row; deepest = s.deepest; result = results_lift e s.result }
-
 -- what a call leaves
 pub record Leaves (o : Before) (xs : List Thing) (x : Said × Machine) (y : Answer × State) : Type 0 where
   pub extends : Extends xs y.1.cells
@@ -61,48 +35,6 @@ pub record Fits {A C : Type 0} (row : C → ℕ) (result : C → Machine → ℕ
   pub same_row : row c ≡ row' a
   pub same_result : Results xs (result c w) (result' a)
 
-module _ {A C : Type 0} {o : Before} {xs : List Thing} {Q : C → A → List Thing → Type 0} (row : C → ℕ) (result : C → Machine → ℕ) (row' : A → ℕ) (result' : A → R.Result) (f : (c : C) (a : A) (w : Machine) (s : State) → Holds o w s → Q c a s.cells → Fits row result row' result' c a w s.cells) where
-  leaves : {r : Result C} {d : Outcome A} → Ends o xs Q r d → Leaves o xs (told row result r) (answered row' result' d)
-  unfolding told answered
-  leaves (in_value {a = a} {b = c} {w = w} {s = s} e h g q) = let p = f c a w s h q in record { extends = e; holds = h; fit = g; says = record { number = refl; row = p.same_row; deepest = ap (λ (n : Counts). n.deepest) h.counts; result = p.same_result } }
-  leaves (in_refusal e h g) = record { extends = e; holds = h; fit = g; says = record { number = refl; row = refl; deepest = ap (λ (n : Counts). n.deepest) h.counts; result = no_word } }
-
--- the lowest cell with the quote of a term stands in its cell
-low_word : {o : Before} {w : Machine} {s : State} {n : ℕ} {t : Term} → Holds o w s → Cell n (term t) s.cells → Results s.cells (quote_of w.cells n) (a_term t)
-low_word {w = w} {n = n} {t = t} h c = let r = read_cell {x = term t} tt c same h in term_word {n = quote_of w.cells n} {t = t} (rw (quote_is r) r.lowest)
-
--- over any functions that match the guarded walk's
-pub asked : {o : Before} {w : Machine} {s : State} {c : Callees} (n : ℕ) → Linked o (ready n) c (guarded n) → (code : Code) (d : ℕ) (g : Context) (ts : List Term) → d + n ≤ 4200 → context_top g ≤ 32 → Lows ts → Fit s → Holds o w s → Leaves o s.cells (ask c code d g ts w) (walk (walk_callees n) code d g ts s)
-unfolding ask walk
-asked n L c_context d g ts l i k f h = leaves _ _ _ _ (λ c a w s h q. record { same_row = q; same_result = no_word }) (contexted n L d g l i f h)
-asked n L c_universe d g ts l i k f h = leaves _ _ _ _ (λ c a w s h q. record { same_row = q.right; same_result = level_word q.left }) (levelled n L d g (nth ts 0) l i (nth_low ts 0 k) f h)
-asked n L c_infer d g ts l i k f h = leaves _ _ _ _ (λ c a w s h q. record { same_row = q.right; same_result = low_word h q.left }) (inferred n L d g (nth ts 0) l i (nth_low ts 0 k) f h)
-asked n L c_check d g ts l i k f h = leaves _ _ _ _ (λ c a w s h q. record { same_row = q; same_result = no_word }) (checked n L d g (nth ts 0) (nth ts 1) l i (nth_low ts 0 k) (nth_low ts 1 k) f h)
-asked n L c_normalise d g ts l i k f h = leaves _ _ _ _ (λ c a w s h q. record { same_row = q.right; same_result = low_word h q.left }) (normalised n L d g (nth ts 0) (nth ts 1) l i (nth_low ts 0 k) (nth_low ts 1 k) f h)
-asked n L c_equal d g ts l i k f h = leaves _ _ _ _ (λ c a w s h q. record { same_row = q; same_result = no_word }) (equalled n L d g (nth ts 0) (nth ts 1) (nth ts 2) l i (nth_low ts 0 k) (nth_low ts 1 k) (nth_low ts 2 k) f h)
-
--- deepest starts from 0
-pub afresh_holds : {o : Before} {w : Machine} {s : State} → Holds o w s → Holds o (afresh w) (with_deepest 0 s)
-unfolding afresh with_deepest
-afresh_holds h = record { words = h.words; counts = rw h.counts; cells_fit = h.cells_fit; rows_fit = h.rows_fit; rows_index = h.rows_index; cells_index = h.cells_index }
-
-turned_leaves : {o : Before} {w : Machine} {s : State} (n : ℕ) → Fit s → Holds o w s → Leaves o s.cells (turned n, w) (R.refusal n 0, s)
-turned_leaves n f h = record { extends = same; holds = h; fit = f; says = record { number = refl; row = refl; deepest = refl; result = no_word } }
-
-pub asked_sized : {o : Before} {w : Machine} {s : State} (call : Call) → Fit s → Holds o w s → Leaves o s.cells (ask_sized (size_call call) call w) (play call s)
-unfolding play play_sized ask_sized with_deepest
-asked_sized {o} {w} {s} call f h = go (size_call call) refl
-  where
-    go : (z : Sized) → size_call call ≡ z → Leaves o s.cells (ask_sized z call w) (play_sized z call s)
-    go scope_over e = turned_leaves _ f h
-    go size_over e = turned_leaves _ f h
-    go index_over e = turned_leaves _ f h
-    go (fits n) e =
-        let k = let_in call n e in
-        let d = k.dims in
-        let l = f.low in
-        subst (λ (m : ℕ). Leaves o s.cells (ask (callees m) call.code call.dims (scope_of Nil call.types) call.terms (afresh w)) (walk (walk_callees s.limit) call.code call.dims (scope_of Nil call.types) call.terms (with_deepest 0 s))) (ap (λ (n : Counts). n.limit) (sym h.counts)) (asked {s = with_deepest 0 s} s.limit (link s.limit) call.code call.dims (scope_of Nil call.types) call.terms (omega arith) (scope_low Nil call.types (omega arith) k.types) k.terms f (afresh_holds h))
-
 pub data AllSay (xs : List Thing) : List Said → List Answer → Type 0 where
   none_say : AllSay xs [] []
   says_on : {a : Said} {as' : List Said} {b : Answer} {bs : List Answer} → Says xs a b → AllSay xs as' bs → AllSay xs (a ∷ as') (b ∷ bs)
@@ -112,16 +44,3 @@ pub record EndsRun (o : Before) (xs : List Thing) (x : List Said × Machine) (y 
   pub holds : Holds o x.1 y.1
   pub fit : Fit y.1
   pub says : AllSay y.1.cells x.0 y.0
-
-pub asked_all : {o : Before} {w : Machine} {s : State} (calls : List Call) → Fit s → Holds o w s → EndsRun o s.cells (ask_all calls w) (play_all calls s)
-unfolding ask_all play_all
-asked_all [] f h = record { extends = same; holds = h; fit = f; says = none_say }
-asked_all {w = w} {s = s} (call ∷ calls) f h =
-    let a = asked_sized call f h in
-    let b = asked_all {w = (ask_sized (size_call call) call w).1} {s = (play call s).1} calls a.fit a.holds in
-    record { extends = extends_trans a.extends b.extends; holds = b.holds; fit = b.fit; says = says_on (says_lift b.extends a.says) b.says }
-
--- from the start, over slices that held anything
-pub runs : (limit : ℕ) (rows cells : List ℕ) (calls : List Call) → limit ≤ 4096 → EndsRun (record { rows = rows; cells = cells }) [] (ask_all calls (start limit rows cells)) (play_all calls (R.start limit (length rows) (length cells)))
-unfolding R.start
-runs limit rows cells calls l = asked_all calls (start_fits limit (length rows) (length cells) l) (starts limit rows cells)

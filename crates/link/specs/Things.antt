@@ -1,14 +1,13 @@
 -- Things in cells: which cell a thing has, and which is the lowest with its quote. Assumes nothing.
+-- That `cell` and `quoted` are the numbers of these is proved in proofs/Things.
 use Rattle.std.specs.Prelude.{ℕ, ◌≡◌, Bool, true, false, length, List, [], ◌∷◌, ◌++◌}
 use Rattle.std.proofs.Math.Path.{refl}
 use Rattle.std.proofs.Common.{sym, ap, ◌∙◌, arith}
 use Rattle.std.proofs.Math.Option.{Option, none, some}
-use Rattle.ast.specs.Words.{ifb}
-use Rattle.ast.specs.Cells.{or_else}
 use Rattle.ast.specs.declared.cells.Found.TheVariants.{At, Nothing}
 use Rattle.walk.specs.Syntax.{Interval, Quote, Quotes, quote, quotes, quote?, quotes?, interval?}
 use Rattle.walk.specs.State.{Thing, term, interval, context, inference, thing?}
-use Rattle.link.specs.Lists.{yes?, found_of, first, Nth, nth_unique, Extends, same, more, first_stays, first_passes}
+use Rattle.link.specs.Lists.{yes?, first, Nth, nth_unique, Extends, same, more, first_stays, first_passes}
 
 -- what a cell shows: its quote; a remembered inference has none
 pub data Shown : Type 0 where
@@ -68,30 +67,6 @@ pub record Cell (n : ℕ) (x : Thing) (xs : List Thing) : Type 0 where
 pub record Low (n : ℕ) (s : Shown) (xs : List Thing) : Type 0 where
   pub found : first (shows s) xs ≡ At n
 
-module _ (p : Thing → Bool) where
-  or_else_this : (o q : Option ℕ) → found_of (or_this o q) ≡ or_else (found_of o) (found_of q)
-  or_else_this (some n) q = refl
-  or_else_this none q = refl
-
-  one_found : (b : Bool) (n : ℕ) → found_of (elim b as (λ _. Option ℕ) [ true ↦ some n | false ↦ none ]) ≡ ifb b (At n) Nothing
-  one_found true n = refl
-  one_found false n = refl
-
-  lowest_first : (xs : List Thing) → found_of (lowest p xs) ≡ first p xs
-  unfolding lowest first
-  lowest_first [] = refl
-  lowest_first (x ∷ xs) = or_else_this (lowest p xs) _ ∙ rw (lowest_first xs, one_found (p x) (length xs))
-
-  to_lowest : {n : ℕ} (xs : List Thing) → first p xs ≡ At n → some n ≡ lowest p xs
-  to_lowest {n} xs e = go (lowest p xs) (lowest_first xs ∙ e)
-    where
-      go : (o : Option ℕ) → found_of o ≡ At n → some n ≡ o
-      go (some m) q = let k : n ≡ m = cc in ap some k
-      go none q = let z : ◌≡◌ {A = ℕ} 0 1 = cc in absurd (omega arith)
-
-  from_lowest : {n : ℕ} (xs : List Thing) → some n ≡ lowest p xs → first p xs ≡ At n
-  from_lowest xs e = sym (ap found_of e ∙ lowest_first xs)
-
 -- no thing has two cells
 pub record Distinct (xs : List Thing) : Type 0 where
   pub once : (x : Thing) (before : List Thing) → Counted x before xs → first (is_thing x) before ≡ Nothing
@@ -109,18 +84,6 @@ once_more f d (more c) = d.once _ _ c
 
 pub more_distinct : {x : Thing} {xs : List Thing} → first (is_thing x) xs ≡ Nothing → Distinct xs → Distinct (x ∷ xs)
 more_distinct f d = record { once = λ y before c. once_more f d c }
-
-pub cell_is : {n : ℕ} {x : Thing} {xs : List Thing} → Cell n x xs → some n ≡ cell xs x
-cell_is {x = x} {xs = xs} h = to_lowest (is_thing x) xs h.found
-
-pub is_cell : {n : ℕ} {x : Thing} {xs : List Thing} → some n ≡ cell xs x → Cell n x xs
-is_cell {x = x} {xs = xs} e = record { found = from_lowest (is_thing x) xs e }
-
-pub low_is : {n : ℕ} {s : Shown} {xs : List Thing} → Low n s xs → some n ≡ quoted xs s
-low_is {s = s} {xs = xs} h = to_lowest (shows s) xs h.found
-
-pub is_low : {n : ℕ} {s : Shown} {xs : List Thing} → some n ≡ quoted xs s → Low n s xs
-is_low {s = s} {xs = xs} e = record { found = from_lowest (shows s) xs e }
 
 pub cell_lift : {n : ℕ} {x : Thing} {xs ys : List Thing} → Extends xs ys → Cell n x xs → Cell n x ys
 cell_lift {x = x} e h = record { found = first_stays (is_thing x) e h.found }

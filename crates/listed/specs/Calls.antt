@@ -13,7 +13,7 @@ use Rattle.walk.specs.Limits.{Sized, fits, scope_over, size_over, index_over, si
 use Rattle.walk.specs.Run.{Result, no_result, a_level, a_term, Answer, answered, walk, play_sized, play, play_all}
 use Rattle.walk.specs.Demand.{of_none, of_level, of_answer, judgment_of, Stated, AllStated, no_call, call_on}
 use Rattle.link.specs.Table.{quote_at, CellsWords, Named, AnswerWords, AnswerAt, this_answer, later_answer}
-use Rattle.link.specs.Back.{names}
+use Rattle.link.proofs.Back.{names}
 use Rattle.writer.specs.Text.{each}
 use Rattle.lines.specs.Calls.{code, call_line}
 use Rattle.listed.specs.Said.{QuoteCell, ResultIn, of_context, of_universe, of_infer, of_check, of_normalise, of_equal, Ended, accepted, CallIn, CallsIn, no_calls, and_call}

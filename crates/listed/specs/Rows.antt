@@ -6,10 +6,10 @@ use Rattle.walk.specs.Judgment.{Judgment, Argument, number, of_interval, of_quot
 use Rattle.walk.specs.Judgment as J
 use Rattle.walk.specs.State.{Row, Thing}
 use Rattle.walk.specs.Demand.{RowAt, newest, older, Cites, none_cited, ◌also◌, DerivationOrder}
-use Rattle.schemas.specs.Concludes.{concludes, few_premises}
-use Rattle.link.specs.Things.{is_low}
+use Rattle.schemas.proofs.Concludes.{concludes, few_premises}
+use Rattle.link.proofs.Things.{is_low}
 use Rattle.link.specs.Table.{interval_at, quote_at, context_at, CellsWords, argument_word, RowWords}
-use Rattle.link.specs.Back.{interval_read, quote_read, context_read}
+use Rattle.link.proofs.Back.{interval_read, quote_read, context_read}
 use Rattle.writer.specs.Text.{Text, each}
 use Rattle.quotes.specs.Judgments.{row_word}
 use Rattle.lines.specs.Rows.{row_line}

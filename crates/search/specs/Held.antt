@@ -11,7 +11,7 @@ use Rattle.ast.specs.Cells.{or_else}
 use Rattle.ast.specs.declared.cells.Found.{Found}
 use Rattle.ast.specs.declared.cells.Found.TheVariants.{At, Nothing}
 use Rattle.producer.specs.Machine.{Machine, find_row}
-use Rattle.schemas.specs.Concludes.{concludes}
+use Rattle.schemas.proofs.Concludes.{concludes}
 use Rattle.walk.specs.Syntax.{Interval, I0, I1, Dim, Neg, Meet, Join, Term, Universe, Var, Nat, Zero, Pi, Lam, App, Path, PathLam, PathApp, Sigma, Pair, Fst, Snd, Context, Nil, Cons, Quote, Quotes, quote, quotes}
 use Rattle.walk.specs.Judgment.{Judgment, kind, Argument, number, of_interval, of_quote, of_context, arguments}
 use Rattle.walk.specs.Reader.{kinds, ikinds, Call}
@@ -21,7 +21,8 @@ use Rattle.walk.specs.Demand.{RowAt, newest, older, DerivationOrder, Distinct, h
 use Rattle.walk.specs.Demand as D
 use Rattle.link.specs.Lists.{Nth, nth_below, first, first_passes, blocks_length, read, yes?}
 use Rattle.link.specs.Lists as L
-use Rattle.link.specs.Things.{Shown, shown?, show, shows, Low, is_low}
+use Rattle.link.specs.Things.{Shown, shown?, show, shows, Low}
+use Rattle.link.proofs.Things.{is_low}
 use Rattle.link.specs.Tables.{Spoken, j_ctx, j_dshiftctx, j_lookup, j_lt, j_le, j_max, j_interval, j_ishift, j_isubst, j_shift, j_subst, j_dshift, j_dsubst, j_has, j_eq, j_iend}
 use Rattle.link.specs.Store.{Line, line}
 use Rattle.link.specs.Holds.{Before, Holds, nth_of}
@@ -32,8 +33,8 @@ use Rattle.walk.proofs.Calls.{play_all_left}
 use Rattle.order.specs.Derivation.{derivation_order, distinct}
 use Rattle.order.specs.Theorem.{start_good}
 use Rattle.link.specs.Asked.{ask_all, start}
-use Rattle.link.specs.Runs.{runs}
-use Rattle.link.specs.Back.{interval_back, quote_back, context_back, interval_read, quote_read, context_read, counted, under_5, table_told}
+use Rattle.link.proofs.Runs.{runs}
+use Rattle.link.proofs.Back.{interval_back, quote_back, context_back, interval_read, quote_read, context_read, counted, under_5, table_told}
 use Rattle.search.specs.Newest.{Last, last, no_one, RowStates, Newest, Lowest, ArgumentWord, LowestWords, LowestRows}
 use Rattle.search.specs.Highest.{only}
 use Rattle.search.specs.Shown.{none_some, some_is, bound}

@@ -13,7 +13,7 @@ use Rattle.rules.specs.Kinds.{sort_of, sorts_of}
 use Rattle.rules.specs.Sorts.{sort, sorted}
 use Rattle.walk.specs.Judgment.{Judgment, kind, Argument, number, of_interval, of_quote, of_context, arguments}
 use Rattle.walk.specs.Rule.{kind_of}
-use Rattle.link.specs.Back.{under_5}
+use Rattle.link.proofs.Back.{under_5}
 use Rattle.link.specs.Store.{ifb_true, eqb_true}
 use Rattle.link.specs.Table.{below, row_word, interval_at, quote_at, context_at}
 use Rattle.search.specs.declared.plain.Wanted.{Wanted}

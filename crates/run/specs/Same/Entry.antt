@@ -13,8 +13,9 @@ use Rattle.order.specs.Counts.{run_counts}
 use Rattle.link.specs.Asked.{ask_all, four_words, written_over}
 use Rattle.link.specs.Asked as L
 use Rattle.link.specs.Table.{CellsWords, AnswerAt, this_answer, later_answer, AnswerWords, CallAt, this_call, later_call, States}
-use Rattle.link.specs.Back.{names}
-use Rattle.link.specs.Words.{AskedWords, answers_fit, words}
+use Rattle.link.proofs.Back.{names}
+use Rattle.link.specs.Words.{AskedWords}
+use Rattle.link.proofs.Words.{answers_fit, words}
 use Rattle.ran.specs.declared.Ran.{Ran}
 use Rattle.run.specs.Run.{Ended, end_run, run_of}
 use Rattle.run.specs.Contract.{walked, numbers_of, Derived, Runs}

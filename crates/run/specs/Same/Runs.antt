@@ -23,7 +23,7 @@ use Rattle.syntax.specs.Calls.{CallAt, CallsAt, no_more, next_call, RunIs, run_i
 use Rattle.link.specs.Lists.{written}
 use Rattle.link.specs.Asked.{Said, lowest_of, ask, ask_sized, ask_all, afresh, start, four_words, written_over}
 use Rattle.link.specs.Asked as L
-use Rattle.link.specs.Words.{said_calls}
+use Rattle.link.proofs.Words.{said_calls}
 use Rattle.run.specs.Call.{row_alone, row_first, row_quoted, called}
 use Rattle.run.specs.Run.{low_of, at_most, started, Told, refused_of, told, turned_by, turned, played, Ended, end_run, refused_run, read_run as ended_read, run_by, run_of}
 use Rattle.run.specs.Same.Terms.{up_is}

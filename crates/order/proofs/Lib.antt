@@ -1,0 +1,4 @@
+-- Theorems about the definitions of specs/, and what they rest on.
+pub mod Bound
+pub mod Never
+pub mod Call
