@@ -268,6 +268,7 @@ not_pair (Plam a b) h f z = refl
 not_pair (Sigma a b) h f z = refl
 not_pair (Pair a b c) h f z = absurd (h a b c refl)
 not_pair Other h f z = refl
+
 -- end of shapes
 
 -- one round, and none left

@@ -851,6 +851,30 @@ pub turn-returns-in-Refused : goal.turn-returns-in-Refused
 unfolding round steps
 turn-returns-in-Refused t c = rw (← c.reduce.ensures, c.in-Refused.is)
 
+pub turns-returns-in-Over : goal.turns-returns-in-Over
+unfolding steps
+turns-returns-in-Over t c = rw (c.loop-i.invariant.1, law.rounds_turn _ _ _ _ _ _ _ _ _ c.loop-i-test.true, ← c.turn.ensures, c.in-Over.is)
+
+pub turns-returns-in-Refused : goal.turns-returns-in-Refused
+unfolding steps
+turns-returns-in-Refused t c = rw (c.loop-i.invariant.1, law.rounds_turn _ _ _ _ _ _ _ _ _ c.loop-i-test.true, ← c.turn.ensures, c.in-Refused.is)
+
+pub turns-loop-i-preserved : goal.turns-loop-i-preserved
+unfolding steps
+turns-loop-i-preserved t c = (omega arith, rw (c.loop-i.invariant.1, law.rounds_turn _ _ _ _ _ _ _ _ _ c.loop-i-test.true, ← c.turn.ensures, c.in-Next.is))
+
+pub turns-returns-in-Step : goal.turns-returns-in-Step
+unfolding steps
+turns-returns-in-Step t c = rw (c.loop-i.invariant.1, law.rounds_over _ _ _ _ _ _ _ _ _ c.loop-i-test.false, ← c.reduce.ensures, c.in-Step.is)
+
+pub turns-returns-in-Whole : goal.turns-returns-in-Whole
+unfolding steps
+turns-returns-in-Whole t c = rw (c.loop-i.invariant.1, law.rounds_over _ _ _ _ _ _ _ _ _ c.loop-i-test.false, ← c.reduce.ensures, c.in-Whole.is)
+
+pub turns-returns-in-Refused-reduce : goal.turns-returns-in-Refused-reduce
+unfolding steps
+turns-returns-in-Refused-reduce t c = rw (c.loop-i.invariant.1, law.rounds_over _ _ _ _ _ _ _ _ _ c.loop-i-test.false, ← c.reduce.ensures, c.in-Refused-reduce.is)
+
 pub universe-returns-then-left-eq0 : goal.universe-returns-then-left-eq0
 unfolding universe_body steps
 universe-returns-then-left-eq0 t c = rw (law.universe_none _ _ _ _ _ c.if-left-eq0.true)
@@ -884,27 +908,3 @@ var-returns-in_default-q2 t c = rw (← c.ctx-q1.ensures, c.in-Is.is, ← c.look
 pub var-returns : goal.var-returns
 unfolding find_var steps
 var-returns t c = rw (← c.ctx-q1.ensures, c.in-Is.is, ← c.lookup-q2.ensures, c.in-Pair.is, ← c.cite2-refs.ensures)
-
-pub turns-returns-in-Over : goal.turns-returns-in-Over
-unfolding steps
-turns-returns-in-Over t c = rw (c.loop-i.invariant.1, law.rounds_turn _ _ _ _ _ _ _ _ _ c.loop-i-test.true, ← c.turn.ensures, c.in-Over.is)
-
-pub turns-returns-in-Refused : goal.turns-returns-in-Refused
-unfolding steps
-turns-returns-in-Refused t c = rw (c.loop-i.invariant.1, law.rounds_turn _ _ _ _ _ _ _ _ _ c.loop-i-test.true, ← c.turn.ensures, c.in-Refused.is)
-
-pub turns-returns-in-Step : goal.turns-returns-in-Step
-unfolding steps
-turns-returns-in-Step t c = rw (c.loop-i.invariant.1, law.rounds_over _ _ _ _ _ _ _ _ _ c.loop-i-test.false, ← c.reduce.ensures, c.in-Step.is)
-
-pub turns-returns-in-Whole : goal.turns-returns-in-Whole
-unfolding steps
-turns-returns-in-Whole t c = rw (c.loop-i.invariant.1, law.rounds_over _ _ _ _ _ _ _ _ _ c.loop-i-test.false, ← c.reduce.ensures, c.in-Whole.is)
-
-pub turns-returns-in-Refused-reduce : goal.turns-returns-in-Refused-reduce
-unfolding steps
-turns-returns-in-Refused-reduce t c = rw (c.loop-i.invariant.1, law.rounds_over _ _ _ _ _ _ _ _ _ c.loop-i-test.false, ← c.reduce.ensures, c.in-Refused-reduce.is)
-
-pub turns-loop-i-preserved : goal.turns-loop-i-preserved
-unfolding steps
-turns-loop-i-preserved t c = (omega arith, rw (c.loop-i.invariant.1, law.rounds_turn _ _ _ _ _ _ _ _ _ c.loop-i-test.true, ← c.turn.ensures, c.in-Next.is))
