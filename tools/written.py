@@ -16,7 +16,7 @@ import sys
 
 sys.dont_write_bytecode = True
 sys.path.insert(0, os.path.dirname(os.path.abspath(__file__)))
-from sections import common, docs, laws, link, link_tables, listed, order, program, rules, run, rust, schemas, shapes, syntax, walk  # noqa: E402
+from sections import common, docs, laws, link, link_tables, listed, order, program, rules, run, rust, schemas, search, shapes, syntax, walk  # noqa: E402
 
 BEGIN = re.compile(r'^( *)(--|//|#|<!--) written by tools/written\.py: (.*?)( -->)?$')
 

@@ -123,7 +123,7 @@ newest_cell {x} {before} {ws} rest (block {ws = vs} {bs = bs} b z h) = go b (las
 pub cells_told : {xs : List Thing} {ws : List ℕ} (rest : List ℕ) → Cells xs ws → CellsWords xs (ws ++ rest)
 cells_told rest cs = record { each = λ x before e. let p = part_of e cs in rw (p.split, append_assoc) (newest_cell (p.rest ++ rest) p.are) }
 
-counted : {n : ℕ} {x : Thing} {xs : List Thing} → Nth n x xs → (before : List Thing) × ((n ≡ length before) × Counted x before xs)
+pub counted : {n : ℕ} {x : Thing} {xs : List Thing} → Nth n x xs → (before : List Thing) × ((n ≡ length before) × Counted x before xs)
 counted (here e) = (_, (e, same))
 counted (there h) = let (before, (e, c)) = counted h in (before, (e, more c))
 
@@ -150,7 +150,7 @@ module _ {xs : List Thing} {C : List ℕ} (cs : CellsWords xs C) where
       go ih at (s_join x y) = let p = at _ _ x in let q = at _ _ y in rw (ih _ _ (omega arith) p.1, ih _ _ (omega arith) q.1)
       -- end of intervals
 
-  quote_back : (f n : ℕ) (t : Term) → n < f → Nth n (term t) xs → quote_at f C n ≡ some (quote t)
+  pub quote_back : (f n : ℕ) (t : Term) → n < f → Nth n (term t) xs → quote_at f C n ≡ some (quote t)
   unfolding quote_at quote_by ◌>>=◌
   quote_back ℕ.zero n t l h = absurd (omega arith)
   quote_back (ℕ.suc f) n t l h = let i = inner {x = term t} tt h in go (λ m _ k h. lowered (quote_at f C) k (quote_back f m _ (omega arith) h)) (part_at i) i.shape
@@ -173,7 +173,7 @@ module _ {xs : List Thing} {C : List ℕ} (cs : CellsWords xs C) where
       go ih at (s_snd x) = let p = at _ _ x in rw (ih _ _ (omega arith) p.1)
       -- end of quotes
 
-  context_back : (f n : ℕ) (g : Context) → n < f → Nth n (context g) xs → context_at f C n ≡ some (quotes g)
+  pub context_back : (f n : ℕ) (g : Context) → n < f → Nth n (context g) xs → context_at f C n ≡ some (quotes g)
   unfolding context_at context_by ◌>>=◌
   context_back ℕ.zero n g l h = absurd (omega arith)
   context_back (ℕ.suc f) n g l h = let i = inner {x = context g} tt h in go (λ m _ k h. lowered (context_at f C) k (context_back f m _ (omega arith) h)) (part_at i) i.shape
@@ -307,7 +307,7 @@ line_stays x (line {kind} {count} {a} {b} {c} {d} {e} {m} {n} {o} {p} {r} s) (li
 
 -- the words of a row, one by one
 
-under_5 : (P : ℕ → Type 0) → P 0 → P 1 → P 2 → P 3 → P 4 → (k : ℕ) → k < 5 → P k
+pub under_5 : (P : ℕ → Type 0) → P 0 → P 1 → P 2 → P 3 → P 4 → (k : ℕ) → k < 5 → P k
 under_5 P a b c d e ℕ.zero m = a
 under_5 P a b c d e (ℕ.suc ℕ.zero) m = b
 under_5 P a b c d e (ℕ.suc (ℕ.suc ℕ.zero)) m = c

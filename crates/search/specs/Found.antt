@@ -1,10 +1,10 @@
 -- The search by the index gives the highest row with a judgment, over any rows that are indexed and whose arguments, like those asked for,
 -- are lowest cells: then two judgments are equal exactly where their words are.
-use Rattle.std.specs.Prelude.{ℕ, zero, suc, ◌≤◌, ◌<◌, ◌*◌, ◌≡◌, refl, List, [], ◌∷◌, Bool, true, false, length, get_or, eqb}
+use Rattle.std.specs.Prelude.{ℕ, suc, ◌≤◌, ◌<◌, ◌*◌, ◌≡◌, refl, List, [], ◌∷◌, true, length, get_or, eqb}
 use Rattle.std.proofs.Common.{sym, ap, ◌∙◌, arith, eq-eqb, lit<}
 use Rattle.std.proofs.Math.Option.{Option, none, some}
 use Rattle.std.proofs.Math.Decide.{ℕ_discrete}
-use Rattle.ast.specs.Words.{ifb, all_eq}
+use Rattle.ast.specs.Words.{all_eq}
 use Rattle.ast.specs.declared.cells.Found.{Found}
 use Rattle.producer.specs.declared.rows.Refs.{Refs}
 use Rattle.producer.specs.Machine.{Machine, same_row, find_row, row_block, add_row}
@@ -17,7 +17,7 @@ use Rattle.link.specs.Table.{◌>>=◌, row_word, cited_at, row_at}
 use Rattle.search.specs.Newest.{Last, last, no_one, RowStates, Newest, asked, Lowest, ArgumentWord, LowestWords, LowestRows}
 use Rattle.search.specs.Arguments.{lowest_read}
 use Rattle.search.specs.Highest.{last_found}
-use Rattle.search.specs.Indexing.{Indexed, indexed, Reindexed, reindexed, new_word, row_stays_then, still_indexed}
+use Rattle.search.specs.Indexing.{Indexed, indexed, reindexed, new_word, row_stays_then, still_indexed}
 
 -- a row states what its words are read as
 

@@ -1,18 +1,18 @@
 -- The rows of a run: they are indexed, their arguments are lowest cells, and no judgment has two of them. So the search gives the one row
 -- that states a judgment, whichever way it went.
-use Rattle.std.specs.Prelude.{ℕ, suc, ◌+◌, ◌*◌, ◌≤◌, ◌<◌, List, [], ◌∷◌, ◌++◌, Bool, false, length, get_or, drop, ltb}
+use Rattle.std.specs.Prelude.{ℕ, ◌+◌, ◌*◌, ◌≤◌, ◌<◌, List, [], ◌∷◌, Bool, false, length, get_or, drop, ltb}
 use Rattle.std.proofs.Math.Path.{◌≡◌, refl}
-use Rattle.std.proofs.Common.{sym, ap, ◌∙◌, add-zero, ltb-true, length-append, lit<}
+use Rattle.std.proofs.Common.{sym, ap, ◌∙◌, ltb-true, length-append, lit<}
 use Rattle.std.proofs.Math.Option.{Option, none, some}
 use Rattle.std.proofs.Math.Bool.{true}
-use native.Mathlib.Omega.{arith}
+use Rattle.std.proofs.Common.{arith}
 use Rattle.ast.specs.Words.{ifb}
 use Rattle.ast.specs.Cells.{or_else}
 use Rattle.ast.specs.declared.cells.Found.{Found}
 use Rattle.ast.specs.declared.cells.Found.TheVariants.{At, Nothing}
 use Rattle.producer.specs.Machine.{Machine, find_row}
 use Rattle.schemas.proofs.Concludes.{concludes}
-use Rattle.walk.specs.Syntax.{Interval, I0, I1, Dim, Neg, Meet, Join, Term, Universe, Var, Nat, Zero, Pi, Lam, App, Path, PathLam, PathApp, Sigma, Pair, Fst, Snd, Context, Nil, Cons, Quote, Quotes, quote, quotes}
+use Rattle.walk.specs.Syntax.{Interval, I0, I1, Dim, Neg, Meet, Join, Universe, Var, Nat, Zero, Pi, Lam, App, Path, PathLam, PathApp, Sigma, Pair, Fst, Snd, Nil, Cons, Quote, Quotes}
 use Rattle.walk.specs.Judgment.{Judgment, kind, Argument, number, of_interval, of_quote, of_context, arguments}
 use Rattle.walk.specs.Reader.{kinds, ikinds, Call}
 use Rattle.walk.specs.Rule.{kind_of}
@@ -23,10 +23,10 @@ use Rattle.link.specs.Lists.{Nth, nth_below, first, first_passes, blocks_length,
 use Rattle.link.specs.Lists as L
 use Rattle.link.specs.Things.{Shown, shown?, show, shows, Low}
 use Rattle.link.proofs.Things.{is_low}
-use Rattle.link.specs.Tables.{Spoken, j_ctx, j_dshiftctx, j_lookup, j_lt, j_le, j_max, j_interval, j_ishift, j_isubst, j_shift, j_subst, j_dshift, j_dsubst, j_has, j_eq, j_iend}
+use Rattle.link.specs.Tables.{Spoken, j_ctx, j_dshiftctx, j_lookup, j_lt, j_le, j_max, j_interval, j_ishift, j_isubst, j_shift, j_subst, j_dshift, j_dsubst, j_has, j_eq}
 use Rattle.link.specs.Store.{Line, line}
 use Rattle.link.specs.Holds.{Before, Holds, nth_of}
-use Rattle.link.specs.Table.{◌>>=◌, kind_word, lower, ckinds, interval_at, quote_at, context_at, a_quote, an_interval, a_context, row_word, cell_words, words_at, CellsWords, argument_word, RowWords, TableWords}
+use Rattle.link.specs.Table.{◌>>=◌, kind_word, lower, ckinds, interval_at, quote_at, context_at, row_word, cell_words, words_at, CellsWords, argument_word, TableWords}
 use Rattle.walk.specs.Run.{play_all}
 use Rattle.walk.specs.Run as R
 use Rattle.walk.proofs.Calls.{play_all_left}
@@ -35,7 +35,7 @@ use Rattle.order.specs.Theorem.{start_good}
 use Rattle.link.specs.Asked.{ask_all, start}
 use Rattle.link.proofs.Runs.{runs}
 use Rattle.link.proofs.Back.{interval_back, quote_back, context_back, interval_read, quote_read, context_read, counted, under_5, table_told}
-use Rattle.search.specs.Newest.{Last, last, no_one, RowStates, Newest, Lowest, ArgumentWord, LowestWords, LowestRows}
+use Rattle.search.specs.Newest.{last, no_one, RowStates, Newest, Lowest, ArgumentWord, LowestWords, LowestRows}
 use Rattle.search.specs.Highest.{only}
 use Rattle.search.specs.Shown.{none_some, some_is, bound}
 use Rattle.search.specs.Arguments.{lowest_read}
@@ -48,6 +48,7 @@ use Rattle.search.specs.Found as F
 module _ {A : Type 0} (p : A → Bool) where
   no_first : {m : ℕ} {x : A} (xs : List A) → Nth m x xs → p x ≡ true → first p xs ≡ Nothing → ⊥
   unfolding first
+  no_first {m = m} [] x4 t e = elim x4 [ ]
   no_first (y ∷ xs) (L.here q) t e = go (first p xs) (rw t at e)
     where
       go : (o : Found) → or_else o (At (length xs)) ≡ Nothing → ⊥
@@ -61,6 +62,7 @@ module _ {A : Type 0} (p : A → Bool) where
 
   first_least : {n m : ℕ} {x : A} (xs : List A) → first p xs ≡ At n → Nth m x xs → p x ≡ true → n ≤ m
   unfolding first
+  first_least {n = n} {m = m} [] e x4 t = elim x4 [ ]
   first_least {n} (y ∷ xs) e (L.here q) t = let l = nth_below (first_passes p (y ∷ xs) n e).nth in omega arith
   first_least {n} {m} (y ∷ xs) e (L.there h) t = go (first p xs) refl e (λ f. first_least xs f h t) (no_first xs h t)
     where
@@ -141,7 +143,6 @@ spoken_kind (j_dshift h0 h1) = refl
 spoken_kind (j_dsubst h0 h1 h2) = refl
 spoken_kind (j_has h0 h1 h2) = refl
 spoken_kind (j_eq h0 h1 h2 h3) = refl
-spoken_kind (j_iend h0 h1) = refl
 
 -- end of kinds of judgments
 

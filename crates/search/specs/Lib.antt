@@ -11,6 +11,5 @@ pub mod Indexing
 pub mod Found
 -- the search from the last row down
 pub mod Plain
-pub mod Scanned
 -- the rows of a run
 pub mod Held

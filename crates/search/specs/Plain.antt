@@ -1,6 +1,6 @@
 -- The plain search: each row from the last down, its kind by its rule and its arguments by quote. And that it gives the highest row that
 -- states the judgment.
-use Rattle.std.specs.Prelude.{ℕ, ◌+◌, ◌*◌, ◌<◌, ◌≡◌, Bool, true, false, List, get_or, ltb, eqb}
+use Rattle.std.specs.Prelude.{ℕ, ◌+◌, ◌*◌, Bool, true, false, List, get_or, ltb, eqb}
 use Rattle.ast.specs.Words.{ifb}
 use Rattle.ast.specs.Cells.{last_of}
 use Rattle.ast.specs.declared.cells.Found.{Found}

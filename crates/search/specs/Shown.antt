@@ -1,11 +1,11 @@
 -- Where the first of two cells has a quote, the comparison of the cells says whether the second has the same; so for intervals and
 -- contexts. Assumes nothing.
-use Rattle.std.specs.Prelude.{ℕ, suc, ◌+◌, ◌*◌, ◌<◌, ◌≡◌, List, Bool, ltb, eqb}
-use Rattle.std.proofs.Math.Path.{refl, fun_ext}
-use Rattle.std.proofs.Common.{sym, ap, ◌∙◌, arith, eq-eqb, ne_eqb, ltb-true, lt-ltb, le-ltb}
+use Rattle.std.specs.Prelude.{ℕ, ◌<◌, ◌≡◌, List, Bool, ltb, eqb}
+use Rattle.std.proofs.Math.Path.{refl}
+use Rattle.std.proofs.Common.{sym, ap, ◌∙◌, arith, eq-eqb, ne_eqb, ltb-true}
 use Rattle.std.proofs.Math.Option.{Option, none, some}
 use Rattle.std.proofs.Math.Bool.{true, false}
-use Rattle.std.proofs.Math.Decide.{ℕ_discrete, dec_lt}
+use Rattle.std.proofs.Math.Decide.{ℕ_discrete}
 use Rattle.std.proofs.Math.ListN.{get_or}
 use Rattle.ast.specs.Words.{ifb}
 use Rattle.link.specs.Store.{eqb_true}
@@ -14,7 +14,7 @@ use Rattle.walk.specs.Bytes.{kind_byte, ikind_byte, kind_is, ikind_is, Table, en
 use Rattle.walk.specs.Reader.{Kind, k_u, k_v, k_nat, k_zero, k_pi, k_lam, k_app, k_path, k_plam, k_papp, k_sigma, k_pair, k_fst, k_snd, IKind, k_0, k_1, k_dim, k_neg, k_meet, k_join, kinds, ikinds}
 use Rattle.walk.specs.Syntax.{Interval, I0, I1, Dim, Neg, Meet, Join, Quote, u, v, nat, zero, pi, lam, app, path, plam, papp, sigma, pair, fst, snd, Quotes, nil, cons}
 use Rattle.link.specs.Table.{◌>>=◌, kind_word, part, lower, interval_by, quote_by, CKind, k_nil, k_cons, ckinds, context_by, interval_at, quote_at, context_at}
-use Rattle.search.specs.Alike.{both_lower, same_part, all_parts, same_node, same_within, same_cells}
+use Rattle.search.specs.Alike.{both_lower, same_part, all_parts, same_node, same_within}
 
 -- b says, where o is something, whether o' is the same
 pub record Like {A : Type 0} (o o' : Option A) (b : Bool) : Type 0 where

@@ -9,7 +9,7 @@ use ast::words::word;
 use producer::rows::row_start;
 
 // A judgment that is asked for: its kind, and its arguments as a row has them, by any cells with their quotes.
-#[derive(Drop)]
+#[derive(Clone, Copy)]
 pub struct Wanted {
     pub kind: u32,
     pub a: u32,
@@ -20,6 +20,7 @@ pub struct Wanted {
 }
 
 // Whether the argument `n` of row `i` shows what the word `x` does, over `m` cells, in a judgment of the kind.
+#[tactic(auto, unfolding(crate::specs::Plain::same_argument, crate::specs::Plain::same_word))]
 fn same_argument(rows: &[u32], cells: &[u32], m: u32, i: u32, kind: u32, n: u8, x: u32) -> bool
     ensures { result ≡ same_argument rows.now cells.now m i kind n x }
 {
@@ -39,6 +40,7 @@ fn same_argument(rows: &[u32], cells: &[u32], m: u32, i: u32, kind: u32, n: u8, 
 }
 
 // Whether row `i` states the judgment.
+#[tactic(auto, unfolding(crate::specs::Plain::row_is))]
 fn row_is(rows: &[u32], cells: &[u32], m: u32, i: u32, wanted: Wanted) -> bool
     ensures { result ≡ row_is rows.now cells.now m wanted i }
 {
@@ -73,6 +75,7 @@ fn scan_rows(rows: &[u32], n: u32, cells: &[u32], m: u32, wanted: Wanted) -> Fou
 }
 
 // The highest of the first `n` rows that states the judgment, over the first `m` cells.
+#[tactic(auto, using(crate::proofs::Scanned::finds))]
 pub fn last_row(rows: &[u32], n: u32, cells: &[u32], m: u32, wanted: Wanted) -> Found
     ensures { Finds rows.now n cells.now m wanted result }
 {

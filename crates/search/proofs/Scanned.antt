@@ -2,14 +2,12 @@
 -- wherever arguments are lowest cells.
 use Rattle.std.specs.Prelude.{ℕ, suc, ◌+◌, ◌*◌, ◌<◌, ◌≤◌, ◌≡◌, List, [], ◌∷◌, map, Bool, true, false, length, get_or, eqb, ltb}
 use Rattle.std.proofs.Math.Path.{refl, sym, ap}
-use Rattle.std.proofs.Common.{◌∙◌, add-zero, arith, eq-eqb, ltb-true, lit<}
+use Rattle.std.proofs.Common.{◌∙◌, add-zero, arith, eq-eqb, ltb-true}
 use Rattle.std.proofs.Math.Option.{Option, none, some}
 use Rattle.ast.specs.Words.{ifb}
-use Rattle.ast.specs.Cells.{last_of}
 use Rattle.ast.specs.declared.cells.Found.{Found}
-use Rattle.ast.specs.declared.cells.Found.TheVariants.{At}
 use Rattle.producer.specs.Machine.{find_row}
-use Rattle.rules.specs.Kinds.{sort_of, sorts_of}
+use Rattle.rules.specs.Kinds.{sort_of}
 use Rattle.rules.specs.Sorts.{sort, sorted}
 use Rattle.walk.specs.Judgment.{Judgment, kind, Argument, number, of_interval, of_quote, of_context, arguments}
 use Rattle.walk.specs.Rule.{kind_of}
@@ -58,6 +56,7 @@ module _ (m : ℕ) (C : List ℕ) where
 
   rows_read : (as' : List Argument) (xs ys : List ℕ) → length as' ≤ length ys → ReadAll m C as' xs → ((k : ℕ) → k < length as' → SameAt as' xs ys k) → ReadAll m C as' ys
   rows_read [] xs ys l none_left h = none_left
+  rows_read (a ∷ as') [] ys l x4 h = elim x4 [ ]
   rows_read (a ∷ as') (x ∷ xs) [] l (p then ps) h = absurd (let z : ⊥ = omega arith in z)
   rows_read (a ∷ as') (x ∷ xs) (y ∷ ys) l (p then ps) h = (told_word m C a x y p).reads (h 0 (omega arith)) then rows_read as' xs ys (omega arith) ps (λ k i. h (suc k) (omega arith))
 
@@ -67,6 +66,8 @@ module _ (m : ℕ) (C : List ℕ) where
 
   rows_same : (as' : List Argument) (xs ys : List ℕ) → ReadAll m C as' xs → ReadAll m C as' ys → (k : ℕ) → SameAt as' xs ys k
   rows_same [] xs ys none_left none_left k = absent_same _ _
+  rows_same (a ∷ as') [] ys x4 _ k = elim x4 [ ]
+  rows_same (a ∷ as') (x ∷ xs) [] _ x9 k = elim x9 [ ]
   rows_same (a ∷ as') (x ∷ xs) (y ∷ ys) (p then ps) (q then qs) ℕ.zero = (told_word m C a x y p).tells q
   rows_same (a ∷ as') (x ∷ xs) (y ∷ ys) (p then ps) (q then qs) (ℕ.suc k) = rows_same as' xs ys ps qs k
 
