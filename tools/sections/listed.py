@@ -1,8 +1,8 @@
 """crates/listed: the text of each kind and judgment, and the cells that hold it."""
 from .common import JUDGMENTS, QUOTE_TYPES, applied, for_both, is_number, judgment, parts_of, quote_node, section
 
-SAID, AGREES = 'crates/listed/specs/Said.antt', 'crates/listed/specs/Agrees.antt'
-CELLS, ROWS = 'crates/listed/specs/Cells.antt', 'crates/listed/specs/Rows.antt'
+SAID, AGREES = 'crates/listed/specs/Said.antt', 'crates/listed/proofs/Agrees.antt'
+CELLS, ROWS = 'crates/listed/specs/Cells.antt', 'crates/listed/proofs/Rows.antt'
 OF = {'term': 'quote', 'interval': 'interval'}
 
 

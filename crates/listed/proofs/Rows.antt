@@ -14,7 +14,7 @@ use Rattle.writer.specs.Text.{Text, each}
 use Rattle.quotes.specs.Judgments.{row_word}
 use Rattle.lines.specs.Rows.{row_line}
 use Rattle.listed.specs.Said.{ArgumentWord, word_number, word_term, word_interval, word_context, ArgumentsIn, no_more, and_then, RefsIn, no_refs, and_ref, RowIn, row_text}
-use Rattle.listed.specs.Agrees.{row_said}
+use Rattle.listed.proofs.Agrees.{row_said}
 use Rattle.listed.specs.Cells.{lowered, some_is, interval_cell, quote_cell, context_cell}
 use Rattle.listed.specs.Listed.{row_lines}
 
