@@ -7,7 +7,7 @@
 // calls' lines as the listing has them. All words are first filled with one that no run stores.
 //
 // Stack: the tables of 50,000 rows take 6.0 MB of it, and the compiler gives all cases one frame of that size. The run `deep` of
-// tools/edges.py meets the limit 4,096 too, and takes 3.6 MB for that: it stands here with the limit 1,024, which takes 1.0 MB.
+// tools/edges.py meets the limit 4,096 too, and takes 3.0 MB for that: it stands here with the limit 1,024, which takes 0.9 MB.
 #![tactic(auto)]
 
 use lines::repeats;
