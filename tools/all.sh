@@ -7,8 +7,12 @@ set -e
 cd "$(dirname "$0")/.."
 python3 tools/written.py
 python3 tools/opened.py
-[ "$1" = tables ] || for crate in ast producer run; do
+[ "$1" = tables ] || for crate in producer run; do
     python3 tools/prove.py "$crate"
 done
-rt fmt
-[ "$1" = tables ] || ${RT:-rt} check ast producer run link
+for crate in crates/*; do
+    (cd "$crate" && rt fmt)
+done
+[ "$1" = tables ] || for crate in ast producer link run; do
+    (cd "crates/$crate" && ${RT:-rt} check)
+done

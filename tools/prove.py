@@ -1,18 +1,19 @@
 #!/usr/bin/env python3
 """Writes the answers of a crate's cycles of calls, from what a check prints of them. Run from the top of the repository.
 
-    python3 tools/prove.py CRATE [CYCLE..]    all the cycles of the crate, or those with these names
+    python3 tools/prove.py CRATE [CYCLE..]    all the crate's cycles, or those of these names (as: producer typing)
 
-A cycle has a folder `proofs/../+CYCLE/`, with its measures and invariants in `Invariants.antt`, by hand; what is written is its
-`Answers.antt`. One without the mark `Made by` is left alone. Then run `rt fmt` and `rt check` in the crate's folder.
+A cycle has a folder `proofs/../+CYCLE/`. Its measures and loop invariants stand there in `Invariants.antt`, by hand; `Answers.antt` is
+written. One without the mark `Made by` is left alone. Then run `rt fmt` and `rt check` in the crate's folder.
 
-An answer is written for each goal that a function of the cycle returns what its definition says, and that a loop's invariant holds again:
-one rewriting by the facts on the way to it, in the order of the code. The other goals are left to the search. Two checks, in a copy of
-the crates, print what is needed: the goals, where the cycles' functions have no tactic; then, with a hole at each of these, the facts.
-By hand is what neither says: proving/answers.py has the names to unfold that no contract names, the tests that are not named after their
-operator, the numbers that a `match` is on, the laws of a loop. A law of a function or of a shape stands in the crate's proofs/At.antt.
+Answered is each goal that a function of the cycle returns what its definition says, and that a loop keeps its invariant: by one rewriting
+with the facts on the way to it, in the order of the code. The other goals are left to the search. Two checks print what is needed, in a
+copy of the crates where the cycles' functions have no tactic: the first the goals, the second, with a hole at each, the facts.
 
-A check of the producer takes a minute in the copy. The environment variable RT is the command to check with (default: rt)."""
+By hand is what neither says, in proving/answers.py: the names to unfold that no contract names, the operators of tests that are not named
+after them, the number that a `match` is on, the laws of a loop. The laws themselves stand in the crate's proofs/At.antt.
+
+The two checks of `producer` take two minutes where the crates below are proved. RT is the command to check with (default: rt)."""
 import argparse
 import os
 import sys
@@ -32,8 +33,8 @@ def main():
     os.chdir(os.path.join(os.path.dirname(os.path.abspath(__file__)), '..'))
     crate = Crate(asked.crate)
     cycles = [cycle for cycle in crate.cycles() if not asked.cycles or cycle.name in asked.cycles]
-    if not cycles:
-        sys.exit('no such cycle')
+    if not cycles or not set(asked.cycles) <= {cycle.name for cycle in cycles}:
+        sys.exit('%s has no such cycle, or its answers are by hand' % crate.name)
     with Copy(crate, cycles) as copy:
         goals = copy.goals()
         facts = copy.facts(goals)

@@ -21,18 +21,18 @@ UNFOLD = {
 # What is never unfolded: laws speak of it.
 SHUT = ('callees', 'rounds', 'built', 'scoped')
 
-# The operators of tests that are not named after them, as if-left-eq0 and if-s1-lt32 are; one of a single word is a Bool.
+# The operators of tests that aren't named after them, as if-left-eq0 and if-s1-lt32 are. Any other test is of a Bool.
 TESTS = {'if-m-n': '<', 'if-m-n-2': '<=', 'if-i-j': '!=', 'if-cell-kind': '=='}
 
-# What turns a test into an equation of Bools, by its operator: where it is true, and where it is false.
+# What makes a test's fact an equation of Bools, by the operator: where it is true, and where it is false.
 EQUATIONS = {'==': ('eq-eqb', 'ne_eqb'), '!=': ('ne_eqb', 'eq-eqb'), '<': ('lt-ltb', 'le-ltb'), '<=': ('le-leb', 'lt-leb')}
 
-# The number that a function's `match` is on, where it isn't the kind of the cell that was read.
+# The number that a function's `match` is on, where it isn't KIND.
 NUMBER = {'compound': 'args.cell.kind', 'build': 'parts-shape.result'}
-READ = 'read-cell.result.kind'
+KIND = 'read-cell.result.kind'
 
 # Laws to rewrite by before a call, by its name.
 BEFORE = {'ended_got': 'law.ended_got_end _ _ _', 'ended_two': 'law.ended_two_end _ _ _'}
 
-# The laws of a loop, by its function's name: of a turn, and of the end. Its invariant is a bound and an equation.
+# The laws of a loop, by its function's name: of a turn, and of the end. The loop's invariant is a bound and an equation.
 LOOPS = {'turns': ('law.rounds_turn _ _ _ _ _ _ _ _ _', 'law.rounds_over _ _ _ _ _ _ _ _ _')}

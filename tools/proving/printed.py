@@ -1,4 +1,4 @@
-"""What a check prints of cycles without answers, in a copy of the crates: their goals, and the facts on the way to each."""
+"""What checks print of cycles, in a copy of the crates: the goals, and the facts on the way to each."""
 import os
 import re
 import shlex
@@ -9,11 +9,11 @@ import tempfile
 
 from .source import read, without_tactic
 
-ANSWERED = re.compile(r'(^|-)returns(-|$)|-loop-.*-preserved$')
+ANSWERED = re.compile(r'(^|-)(returns(-|$)|loop-.*-preserved$)')
 
 
 class Copy:
-    """A copy of the crates, in which the functions of some of a crate's cycles have no tactic and no answers."""
+    "a copy of the crates, in which the functions of these cycles have no tactic, and the cycles no answers"
 
     def __init__(self, crate, cycles):
         self.cycles = cycles
@@ -46,12 +46,11 @@ class Copy:
         return subprocess.run(command, cwd=self.folder, stdout=subprocess.PIPE, stderr=subprocess.STDOUT, text=True).stdout
 
     def goals(self):
-        "cycle -> the goals to answer, in the order that a check asks for them in; each with what its answer takes"
-        text = self.check()
-        out = {}
+        "cycle -> goal -> what its answer takes, in the order in which the check asks for answers"
+        text, out = self.check(), {}
         for cycle in self.cycles:
-            m = re.search(r'(?m)^help: write \./%s with .*\n((?:    .*\n)*)' % re.escape(cycle.file), text)
-            asked = re.findall(r'(?m)^    (\S+)((?: \S+)*) = \?$', m.group(1)) if m else []
+            help = re.search(r'(?m)^help: write \./%s with .*\n((?:    .*\n)*)' % re.escape(cycle.file), text)
+            asked = re.findall(r'(?m)^    (\S+)((?: \S+)*) = \?$', help.group(1)) if help else []
             out[cycle.name] = {goal: takes for goal, takes in asked if ANSWERED.search(goal)}
             if not out[cycle.name]:
                 print('\n'.join(line[:400] for line in text.split('\n') if 'error' in line))
@@ -59,38 +58,35 @@ class Copy:
         return out
 
     def facts(self, goals):
-        "cycle -> goal -> the steps on the way to it, in order, each with its fields; '' is the start"
+        "cycle -> goal -> the steps on the way to it, in order, each with its fields"
         for cycle in self.cycles:
             holes = ['\npub %s : goal.%s\n%s%s = ?\n' % (goal, goal, goal, takes) for goal, takes in goals[cycle.name].items()]
             self.write(cycle.file, 'use %s as goal\n%s' % (cycle.module, ''.join(holes)))
-        text = self.check('--allow-holes')
-        out = {}
+        text, out = self.check('--allow-holes'), {}
         for cycle in self.cycles:
             out[cycle.name] = {}
-            for goal, block in re.findall(r'(?m)^\./%s:\S+ goal \? in `(\S+)`\n((?:  .*\n)*)' % re.escape(cycle.file), text):
-                out[cycle.name][goal] = steps(block, out[cycle.name])
+            for goal, said in re.findall(r'(?m)^\./%s:\S+ goal \? in `(\S+)`\n((?:  .*\n)*)' % re.escape(cycle.file), text):
+                out[cycle.name][goal] = steps(said, out[cycle.name])
             missed = [goal for goal in goals[cycle.name] if goal not in out[cycle.name]]
             if missed:
                 sys.exit('the check says nothing of ' + ', '.join(missed))
         return out
 
 
-def steps(block, before):
-    "the steps that are printed of a goal; before: those of the goals above"
-    said, lines = re.search(r'(?m)^  names you can use(?:, by step)?: *(.*)\n((?:    .*\n)*)', block).groups()
+def steps(said, above):
+    "step -> its fields, of what is said of a goal; the start has no name. above: the steps of the goals above, which may be cited"
+    first, lines = re.search(r'(?m)^  names you can use(?:, by step)?: *(.*)\n((?:    .*\n)*)', said).groups()
     out = {}
-    for line in [said] * bool(said) + lines.strip().split('\n'):
-        line = line.strip()
-        above = re.match(r"as in `(\S+)` above(?:, as far as c\.?([\w'-]*))?$", line)
+    for line in filter(None, [first] + [line.strip() for line in lines.split('\n')]):
+        cited = re.match(r"as in `(\S+)` above(?:, as far as c\.?([\w'-]*))?$", line)
         step = re.match(r"c\.?([\w'-]*): (?:same as c\.([\w'-]+)$|(.*))", line)
-        if above:
-            for name, fields in before[above.group(1)].items():
-                out[name] = fields
-                if name == above.group(2):
-                    break
+        if cited:
+            goal, last = cited.groups()
+            names = list(above[goal])
+            out.update({name: above[goal][name] for name in names[:names.index(last) + 1 if last is not None else None]})
         elif step:
             name, same, fields = step.groups()
             out[name] = out[same] if same else re.findall(r'\.([\w-]+)', re.sub(r'\{.*?\}', '', fields))
-        elif line and not line.startswith("Rattle's own names"):
+        elif not line.startswith("Rattle's own names"):
             sys.exit('what the check prints is not known: ' + line)
     return out

@@ -1,4 +1,4 @@
-"""What is read in the sources: the cycles of calls with their functions, and what a function's contract has unfolded."""
+"""What the sources say: the cycles of calls, their functions, and what the answers of a function unfold."""
 from collections import namedtuple
 import glob
 import os
@@ -6,31 +6,29 @@ import re
 
 from .answers import SHUT, UNFOLD
 
+# Attributes, indentation, name and contract.
 FUNCTION = re.compile(r'((?: *#\[.*\]\n)*)( *)(?:pub(?:\(crate\))? )?fn (\w+)\([^{]*?(?:ensures \{(.*)\}|\{)')
 
-# A cycle of calls: the file of its answers below the crate's folder, the module of its goals, its functions by name.
+# A cycle of calls: the file of its answers, below the crate's folder; the module of its goals; its functions by name.
 Cycle = namedtuple('Cycle', 'name file module functions')
 
-# A function's contract, and the definitions that its file names: name -> module.
+# A function's contract, and where its file has names of specs from: name -> module.
 Function = namedtuple('Function', 'contract named')
 
 
 class Crate:
     def __init__(self, name):
         self.name = name
-        self.mark = '-- Made by tools/prove.py: to make it again, run `python3 tools/prove.py %s`.' % name
         self.folder = 'crates/' + name
+        self.mark = '-- Made by tools/prove.py: to make it again, run `python3 tools/prove.py %s`.' % name
         self.sources = sorted(glob.glob(self.folder + '/src/**/*.rt', recursive=True))
-        # what the crate's own specs define and the proofs have to unfold: name -> module
-        self.own = {}
-        for path in sorted(glob.glob(self.folder + '/specs/**/*.antt', recursive=True)):
-            module = self.module(os.path.relpath(path, self.folder)[:-len('.antt')])
-            self.own.update({defined: module for defined in unfoldable(module)})
-        # what the one name `steps` unfolds
-        self.steps = words(' '.join(re.findall(r'(?m)^unfolding (.*)$', read(self.folder + '/proofs/Steps.antt'))))
+
+    def module(self, path):
+        "the name of a module below the crate's folder"
+        return 'Rattle.%s.%s' % (self.name, path.replace('/', '.'))
 
     def cycles(self):
-        "the cycles whose answers are written here, or are not there yet"
+        "the cycles whose answers are written, or not there yet"
         out = []
         for path in sorted(glob.glob(self.folder + '/proofs/**/+*', recursive=True)):
             file = path + '/Answers.antt'
@@ -39,16 +37,10 @@ class Crate:
                 out.append(Cycle(name, below + '/Answers.antt', self.module(below + '/Goals'), self.functions(name)))
         return out
 
-    def module(self, path):
-        "the name of a module below the crate's folder"
-        return 'Rattle.%s.%s' % (self.name, path.replace('/', '.'))
-
     def functions(self, cycle):
-        "the functions of a cycle; one that calls itself alone has its name"
         out = {}
         for path in self.sources:
-            text = read(path)
-            named = {}
+            text, named = read(path), {}
             for module, names in re.findall(r'(?m)^ghost use (\S+)\.\{(.*)\};', text):
                 named.update({name: module for name in names.split(', ')})
             for attributes, _, name, contract in FUNCTION.findall(text):
@@ -56,22 +48,29 @@ class Crate:
                     out[name] = Function(contract, named)
         return out
 
-    def unfolds(self, name, function):
-        "what the answers of a function unfold: name -> module, or None for steps"
+    def own(self):
+        "name -> module, of what the crate's specs define and the proofs have to unfold"
         out = {}
-        said = words(function.contract)
-        for word in said:
-            module = function.named.get(word, '')
-            if word not in SHUT and word in unfoldable(module):
-                out[word] = module
-        entered = enters(function)
-        more = UNFOLD.get(name, '').split()
-        if entered and entered[0] + '_body' in self.own:
-            more.insert(0, entered[0] + '_body')
-        out.update({word: self.own[word] for word in more})
+        for path in sorted(glob.glob(self.folder + '/specs/**/*.antt', recursive=True)):
+            module = self.module(os.path.relpath(path, self.folder)[:-len('.antt')])
+            out.update({name: module for name in unfoldable(module)})
+        return out
+
+    def steps(self):
+        "what the one name `steps` unfolds"
+        return words(' '.join(re.findall(r'(?m)^unfolding (.*)$', read(self.folder + '/proofs/Steps.antt'))))
+
+    def unfolds(self, name, function):
+        "name -> module, of what the answers of a function unfold: what its contract names, the body that it enters, what is by hand"
+        said, own, entered = words(function.contract), self.own(), enters(function)
+        out = {word: function.named[word] for word in said if word in unfoldable(function.named.get(word, '')) and word not in SHUT}
+        if entered and entered[0] + '_body' in own:
+            out[entered[0] + '_body'] = own[entered[0] + '_body']
+        out.update({word: own[word] for word in UNFOLD.get(name, '').split()})
         if 'machine' in said:
-            out = {word: module for word, module in out.items() if word not in self.steps}
-            out['steps'] = None
+            steps = self.steps()
+            out = {word: module for word, module in out.items() if word not in steps}
+            out['steps'] = self.module('proofs/Steps')
         return out
 
 
@@ -85,24 +84,25 @@ def words(text):
 
 
 def unfoldable(module):
-    "the names that a module of specs marks so"
-    parts = module.split('.')
-    path = 'crates/%s/specs/%s.antt' % (parts[1], '/'.join(parts[3:])) if parts[2:3] == ['specs'] else ''
+    "the names that a module of a crate's specs marks so"
+    m = re.match(r'Rattle\.(\w+)\.(specs\..*)', module)
+    path = 'crates/%s/%s.antt' % (m.group(1), m.group(2).replace('.', '/')) if m else ''
     return re.findall(r'(?m)^ *unfoldable pub ([^\s:◌]+) :', read(path)) if os.path.exists(path) else []
 
 
 def enters(function):
-    "the reference function that a contract is of, and the number of its law's arguments"
+    "the reference function that a contract says it is, with the number of arguments of its law"
     m = re.search(r'≡ (?:\(callees left\)\.(\w+)|(\w+) left)(.*?)\(machine', function.contract)
     return (m.group(1) or m.group(2), len(m.group(3).split()) + 2) if m else None
 
 
 def is_member(cycle, name, attributes):
+    "whether a function is in a cycle; one that calls itself alone has the cycle's name and no attribute"
     return '#[cycle(%s)]' % cycle in attributes or name == cycle and '#[cycle(' not in attributes
 
 
 def without_tactic(text, cycle):
-    "a source in which the cycle's functions have no tactic"
+    "a source, with no tactic at the cycle's functions"
     def one(m):
         attributes, indent, name, _ = m.groups()
         if not is_member(cycle, name, attributes):
