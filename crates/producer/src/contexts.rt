@@ -35,7 +35,6 @@ impl State {
     }
 
     // The context under one more dimension.
-    #[tactic(auto, unfolding(crate::specs::Contexts::dshiftctx_body, walk::specs::Walk::Contexts::dshiftctx_body, crate::proofs::Steps::steps))]
     pub fn dshiftctx(self, left: u32, rows: &mut [u32], cells: &mut [u32], g: u32) -> Two
         ensures { end_2 result rows.new cells.new ≡ (callees left).dshiftctx g (machine rows.old cells.old self) }
     {
@@ -85,7 +84,6 @@ impl State {
     }
 
     // The type of the variable `n`; refuses (8) past the context's end.
-    #[tactic(auto, unfolding(crate::specs::Contexts::lookup_body, walk::specs::Walk::Contexts::lookup_body, crate::proofs::Steps::steps))]
     pub fn lookup(self, left: u32, rows: &mut [u32], cells: &mut [u32], g: u32, n: u32) -> Two
         ensures { end_2 result rows.new cells.new ≡ (callees left).lookup g n (machine rows.old cells.old self) }
     {

@@ -11,7 +11,6 @@ use ast::words::greater;
 
 impl State {
     // The row of `m < n`, or of `m <= n`; refuses (17) where it is not so.
-    #[tactic(auto, unfolding(crate::specs::Numbers::comparison_body, walk::specs::Walk::Numbers::comparison_body, crate::proofs::Steps::steps))]
     pub fn comparison(
         self,
         left: u32,
@@ -107,7 +106,6 @@ impl State {
     }
 
     // The row of the greater of two levels.
-    #[tactic(auto, unfolding(crate::specs::Numbers::max_body, walk::specs::Walk::Numbers::max_body, crate::proofs::Steps::steps))]
     pub fn max(self, left: u32, rows: &mut [u32], cells: &[u32], m: u32, n: u32) -> Got
         ensures { end result rows.new cells.now ≡ (callees left).max m n (machine rows.old cells.now self) }
     {

@@ -182,7 +182,6 @@ pub fn three(
 }
 
 // The context `g` with `left` more types, which start at `at`; and the offset past them.
-#[tactic(auto, unfolding(producer::specs::Machine::end_2, crate::specs::Build::scoped_body, crate::proofs::Steps::steps))]
 pub fn scope(
     state: State,
     left: u32,

@@ -1,8 +1,8 @@
-// The run's reader: its bytes, and an offset in them. Each function over it is a walk by hand, so they are few and thin: a method
-// leaves the work to a function on the slice and the offset, and callers have plain parameters (`limit_of`, `head_at`, `past_at`).
+// The run's reader: its bytes, and an offset in them. Its functions are few and thin: a method leaves the work to a function on the slice
+// and the offset, and callers have plain parameters (`limit_of`, `head_at`, `past_at`).
 ghost use Rattle.std.specs.Prelude.{◌≡◌, drop};
-ghost use Rattle.walk.specs.Reader.{read_head as walk-head, read_limit as walk-limit};
-ghost use Rattle.syntax.specs.Told.{head_of, limit_of as told-limit, call_at, next_in, short};
+ghost use Rattle.walk.specs.Reader.{read_head as walk_head, read_limit as walk_limit};
+ghost use Rattle.syntax.specs.Told.{head_of, limit_of as told_limit, call_at, next_in, short};
 
 use super::scan::{Heading, Limit, Next, read_head, read_limit, skip_call};
 
@@ -29,14 +29,14 @@ impl<'a> Reader<'a> {
 
     // The run's nesting limit, which its first bytes are.
     pub fn limit(self) -> Limit
-        ensures { result ≡ told-limit (walk-limit self.entry.src.now 0) }
+        ensures { result ≡ told_limit (walk_limit self.entry.src.now 0) }
     {
         read_limit(self.src)
     }
 
     // The head of the call here.
     pub fn head(self) -> Heading
-        ensures { result ≡ head_of (walk-head (drop self.entry.at self.entry.src.now) self.entry.at) }
+        ensures { result ≡ head_of (walk_head (drop self.entry.at self.entry.src.now) self.entry.at) }
     {
         read_head(self.src, self.at)
     }
@@ -51,14 +51,14 @@ impl<'a> Reader<'a> {
 
 // The nesting limit of a run.
 pub fn limit_of(s: &[u8]) -> Limit
-    ensures { result ≡ told-limit (walk-limit s.now 0) }
+    ensures { result ≡ told_limit (walk_limit s.now 0) }
 {
     Reader::new(s).limit()
 }
 
 // The head of the call at an offset.
 pub fn head_at(s: &[u8], at: usize) -> Heading
-    ensures { result ≡ head_of (walk-head (drop at s.now) at) }
+    ensures { result ≡ head_of (walk_head (drop at s.now) at) }
 {
     Reader::new(s).to(at).head()
 }

@@ -1,6 +1,6 @@
 // The limits of a call, refusals 5 to 7, in one prefix walk of its bytes: syntax.rs.
 ghost use Rattle.std.specs.Prelude.{◌≡◌, ◌||◌, ◌+◌, ◌*◌, ◌≤◌, ltb, leb, length};
-ghost use Rattle.walk.specs.Limits.{size_term as walk-size, size_terms as walk-sizes, size_call as walk_call};
+ghost use Rattle.walk.specs.Limits.{size_term as walk_size, size_terms as walk_sizes, size_call as walk_call};
 ghost use Rattle.syntax.specs.Told.{term_at, terms_at, call_at, HeadAt, short, size_of, size_in};
 ghost use Rattle.syntax.specs.Parts.{Counts, refused_size};
 
@@ -40,7 +40,7 @@ fn limits(depth: u8, nodes: usize) -> bool
 // One term after so many nodes, at depth 0. A word of the stack is a part and three times its depth.
 fn size_term(s: &[u8], from: usize, before: usize, stack: &mut [u8]) -> Counted
     requires { 2 * length s.now + 1 ≤ length stack.old }
-    ensures { Counts (λ t. walk-size t 0 before) (term_at s.now from) result }
+    ensures { Counts (λ t. walk_size t 0 before) (term_at s.now from) result }
 {
     stack[0] = TERM;
     let mut height: usize = 1;
@@ -81,7 +81,7 @@ fn size_term(s: &[u8], from: usize, before: usize, stack: &mut [u8]) -> Counted
 // So many terms, one after the other, from no nodes.
 fn size_terms(s: &[u8], from: usize, count: usize, stack: &mut [u8]) -> Counted
     requires { 2 * length s.now + 1 ≤ length stack.old }
-    ensures { Counts (λ ts. walk-sizes ts 0) (terms_at count s.now from) result }
+    ensures { Counts (λ ts. walk_sizes ts 0) (terms_at count s.now from) result }
 {
     let mut left = count;
     let mut at = from;

@@ -2,7 +2,7 @@
 ghost use Rattle.std.specs.Prelude.{◌≡◌, ◌+◌, ◌<◌, ◌≤◌, get_or, length};
 ghost use Rattle.std.proofs.Math.Option.{none as nothing};
 ghost use Rattle.walk.specs.Reader.{kinds, ikinds};
-ghost use Rattle.syntax.specs.Parts.{Lists, parts as term-parts, iparts, of_kind, after, part as part_of, parts_none, parts_one, parts_two, parts_three, parts_refused, pushed, deeper as deepened};
+ghost use Rattle.syntax.specs.Parts.{Lists, parts as term_parts, iparts, of_kind, after, part as part_of, parts_none, parts_one, parts_two, parts_three, parts_refused, pushed, deeper as deepened};
 
 // A part: the number of u, v or dim, which may be any byte; a term; an interval.
 pub(crate) const INDEX: u8 = 0;
@@ -77,7 +77,7 @@ fn refused() -> Parts
 
 #[tactic(auto, unfolding(crate::specs::Parts::so_many, crate::specs::Parts::part, crate::specs::Parts::of_kind))]
 fn of_term(kind: u8) -> Parts
-    ensures { Lists (of_kind term-parts (get_or kinds kind nothing)) result }
+    ensures { Lists (of_kind term_parts (get_or kinds kind nothing)) result }
 {
     match kind {
         // written by tools/written.py: parts of a term

@@ -2,7 +2,7 @@
 // the bytes go, so what is still to be read stands on a stack that is lent, and its contents do not matter.
 ghost use Rattle.std.specs.Prelude.{◌≡◌, ◌≤◌, length, drop, get_or};
 ghost use Rattle.std.proofs.Math.Option.{none};
-ghost use Rattle.walk.specs.Reader.{codes, read_head as walk-head, read_limit as walk-limit, read_calls};
+ghost use Rattle.walk.specs.Reader.{codes, read_head as walk_head, read_limit as walk_limit, read_calls};
 ghost use Rattle.syntax.specs.Told.{term_at, terms_at, call_at, short, next_in, head_of, terms_in, many_terms, limit_of, counted, scanned};
 
 use super::calls;
@@ -126,7 +126,7 @@ pub(crate) fn terms_after(head: CallHead) -> usize
 
 // The head of the call at an offset: what a `Reader` reads.
 pub fn read_head(s: &[u8], from: usize) -> Heading
-    ensures { result ≡ head_of (walk-head (drop from s.now) from) }
+    ensures { result ≡ head_of (walk_head (drop from s.now) from) }
 {
     if s.len() <= from {
         return Heading::Bad(from);
@@ -165,7 +165,7 @@ pub fn skip_call(s: &[u8], from: usize, stack: &mut [u8]) -> Next
 }
 
 pub fn read_limit(s: &[u8]) -> Limit
-    ensures { result ≡ limit_of (walk-limit s.now 0) }
+    ensures { result ≡ limit_of (walk_limit s.now 0) }
 {
     if s.len() < 1 {
         return Limit::Bad(0);
