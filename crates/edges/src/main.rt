@@ -19,7 +19,7 @@ use text::Piece;
 const FILL: u32 = 2863311530;
 
 // The words of each slice that a case lends.
-#[derive(Drop)]
+#[derive(Clone, Copy)]
 struct Lent {
     rows: usize,
     cells: usize,
@@ -27,7 +27,7 @@ struct Lent {
 }
 
 // A number in the cases, and the offset past it.
-#[derive(Drop)]
+#[derive(Clone, Copy)]
 struct Read {
     value: usize,
     next: usize,

@@ -8,49 +8,49 @@ use crate::rows::Refs;
 use ast::words::less;
 
 // The state alone, or a refusal.
-#[derive(Drop)]
+#[derive(Clone, Copy)]
 pub enum Done {
     Ready(State),
     Refused(State, u32),
 }
 
 // A number, or a refusal.
-#[derive(Drop)]
+#[derive(Clone, Copy)]
 pub enum Got {
     Is(State, u32),
     Refused(State, u32),
 }
 
 // Two numbers, or a refusal.
-#[derive(Drop)]
+#[derive(Clone, Copy)]
 pub enum Two {
     Pair(State, u32, u32),
     Refused(State, u32),
 }
 
 // Two results with their rows, or a refusal.
-#[derive(Drop)]
+#[derive(Clone, Copy)]
 pub enum Four {
     Each(State, u32, u32, u32, u32),
     Refused(State, u32),
 }
 
 // A number and the rows to cite for it, or a refusal.
-#[derive(Drop)]
+#[derive(Clone, Copy)]
 pub enum Cited {
     With(State, u32, Refs),
     Refused(State, u32),
 }
 
 // What is inferred: a type, the rows to cite and the rule; or a refusal.
-#[derive(Drop)]
+#[derive(Clone, Copy)]
 pub enum Inferred {
     Has(State, u32, Refs, u32),
     Refused(State, u32),
 }
 
 // A root reduction: the term, its type and the row of the equation; none; or a refusal.
-#[derive(Drop)]
+#[derive(Clone, Copy)]
 pub enum Reduced {
     Step(State, u32, u32, u32),
     Whole(State),
@@ -58,7 +58,7 @@ pub enum Reduced {
 }
 
 // A round of `normalize`: the term reached and the row of its equation; the end; or a refusal.
-#[derive(Drop)]
+#[derive(Clone, Copy)]
 pub enum Round {
     Next(State, u32, u32),
     Over(State),

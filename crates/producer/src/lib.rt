@@ -13,8 +13,8 @@ pub mod contexts; // dshiftctx, lookup
 pub mod typing; // ctx, infer, universe, check, expose
 pub mod equality; // normalize, equal, reduce
 
-// The counts, which travel by value through methods that give them back. They stand at the crate's root for their short path: the
-// checker names files after it (docs/DECISIONS.md, "Short names").
+// The counts, which travel by value through methods that give them back. They stand at the crate's root, so that paths to them are short
+// (docs/DECISIONS.md, "Short names").
 #[derive(Clone, Copy)]
 pub struct State {
     pub rows: u32,

@@ -22,7 +22,7 @@ pub enum Op {
 }
 
 // An operation and the rows to cite for it, or a refusal.
-#[derive(Drop)]
+#[derive(Clone, Copy)]
 pub enum Inner {
     Within(State, Op, Refs),
     Refused(State, u32),

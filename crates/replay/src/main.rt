@@ -13,7 +13,7 @@ use text::Piece;
 const FILL: u32 = 2779096485;
 
 // What was compared so far.
-#[derive(Drop)]
+#[derive(Clone, Copy)]
 struct Tally {
     runs: u32,
     calls: u32,

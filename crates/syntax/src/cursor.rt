@@ -6,7 +6,7 @@ ghost use Rattle.syntax.specs.Told.{head_of, limit_of as told_limit, call_at, ne
 
 use super::scan::{Heading, Limit, Next, read_head, read_limit, skip_call};
 
-#[derive(Drop)]
+#[derive(Clone, Copy)]
 pub struct Reader<'a> {
     pub src: &'a [u8],
     pub at: usize,

@@ -11,7 +11,7 @@ use ast::refusals;
 
 // The head of a call within the limits, its nodes and the offset past it; a refusal's number and that offset; the place of a fault; or
 // no room for the stack.
-#[derive(Drop)]
+#[derive(Clone, Copy)]
 pub enum Size {
     Fits(CallHead, usize, usize),
     Refused(u32, usize),
@@ -20,7 +20,7 @@ pub enum Size {
 }
 
 // The nodes so far and the offset reached; the refusal's number; or the place of a fault.
-#[derive(Drop)]
+#[derive(Clone, Copy)]
 pub(crate) enum Counted {
     Nodes(usize, usize),
     Refused(u32),

@@ -12,7 +12,7 @@ pub(crate) const TERM: u8 = 1;
 pub(crate) const INTERVAL: u8 = 2;
 
 // The parts of a node, the last of them in low. Where n is 4 the node's byte may not stand there.
-#[derive(Drop)]
+#[derive(Clone, Copy)]
 pub(crate) struct Parts {
     pub n: usize,
     pub low: u8,

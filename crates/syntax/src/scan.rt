@@ -11,7 +11,7 @@ use super::parts::{TERM, parts_after, push};
 use ast::refusals;
 
 // The offset past what was read, the place of a fault, or no room: the stack has under 2 * length + 1 bytes.
-#[derive(Drop)]
+#[derive(Clone, Copy)]
 pub enum Next {
     Past(usize),
     Bad(usize),
@@ -27,21 +27,21 @@ pub struct CallHead {
 }
 
 // A call's head, or the place of the fault.
-#[derive(Drop)]
+#[derive(Clone, Copy)]
 pub enum Heading {
     Is(CallHead),
     Bad(usize),
 }
 
 // A run's nesting limit, or the place of the fault.
-#[derive(Drop)]
+#[derive(Clone, Copy)]
 pub enum Limit {
     Is(usize),
     Bad(usize),
 }
 
 // The nesting limit and the number of calls, or the refusal's number and place.
-#[derive(Drop)]
+#[derive(Clone, Copy)]
 pub enum Scanned {
     Calls(usize, usize),
     Refused(u32, usize),

@@ -125,7 +125,7 @@ read_head = do
   n ← byte
   ok (record { code = code; dims = d; size = n })
 
--- A call; its context's types are the outermost first, and it has `terms-of code` terms.
+-- A call; its context's types are the outermost first, and it has `terms_of code` terms.
 pub record Call : Type 0 where
   pub code : Code
   pub dims : ℕ

@@ -34,7 +34,7 @@ unfoldable pub scope_of : Context → List Term → Context
 scope_of g [] = g
 scope_of g (a ∷ as') = scope_of (Cons a g) as'
 
--- A call's terms by place. A call that is read has them all (`full` of `each-call`, in the crate `order`'s Call).
+-- A call's terms by place. A call that is read has them all (`full` of `each_call`, in the crate `order`'s Call).
 abbrev pub nth : List Term → ℕ → Term
 nth ts n = get_or ts n Nat
 

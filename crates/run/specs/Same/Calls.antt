@@ -77,7 +77,7 @@ module _ (c : Callees) (types : List Term) where
   row_asked : (k : ℕ → W (ℕ × ℕ)) (m : ℕ → W ℕ) → ((g : ℕ) → k g ≡ row_alone (m g)) → (prepared c make_nil >>= λ nil. scope_cells types nil >>= k) ≡ row_alone (c.ready >>= λ _. build_context (scope_of Nil types) >>= m)
   row_asked k m h = scoping k ∙ then_same c.ready (λ _. then_same (build_context (scope_of Nil types)) h ∙ sym (alone_in (build_context (scope_of Nil types)) m)) ∙ sym (alone_in c.ready _)
 
-  -- `of` is row_first or row-quoted
+  -- `of` is row_first or row_quoted
   result_asked : (of : W (ℕ × ℕ) → W (ℕ × ℕ)) → ((A : Type 0) (m : W A) (f : A → W (ℕ × ℕ)) → of (m >>= f) ≡ (m >>= λ a. of (f a))) → (k m : ℕ → W (ℕ × ℕ)) → ((g : ℕ) → k g ≡ of (m g)) → (prepared c make_nil >>= λ nil. scope_cells types nil >>= k) ≡ of (c.ready >>= λ _. build_context (scope_of Nil types) >>= m)
   result_asked of past k m h = scoping k ∙ then_same c.ready (λ _. then_same (build_context (scope_of Nil types)) h ∙ sym (past _ (build_context (scope_of Nil types)) m)) ∙ sym (past _ c.ready _)
 
