@@ -2,6 +2,8 @@
 
 # Names to unfold that a function's contract doesn't name, by the function's name.
 UNFOLD = {
+    'dshiftctx': 'context_row',
+    'lookup': 'context_row',
     'ctx': 'known_row known_or ctx_cons',
     'expose': 'retyped',
     'infer': 'new_infer',
@@ -22,17 +24,22 @@ UNFOLD = {
 SHUT = ('callees', 'rounds', 'built', 'scoped')
 
 # The operators of tests that aren't named after them, as if-left-eq0 and if-s1-lt32 are. Any other test is of a Bool.
-TESTS = {'if-m-n': '<', 'if-m-n-2': '<=', 'if-i-j': '!=', 'if-cell-kind': '=='}
+TESTS = {'if-n-m': '>=', 'if-n-m-2': '>', 'if-s1-ge32': '>=', 'if-i-j': '!=', 'if-read-kind': '=='}
 
 # What makes a test's fact an equation of Bools, by the operator: where it is true, and where it is false.
-EQUATIONS = {'==': ('eq-eqb', 'ne_eqb'), '!=': ('ne_eqb', 'eq-eqb'), '<': ('lt-ltb', 'le-ltb'), '<=': ('le-leb', 'lt-leb')}
+# A test with its sides exchanged is one of `<` or `<=` that fails.
+EQUATIONS = {'==': ('eq-eqb', 'ne_eqb'), '!=': ('ne_eqb', 'eq-eqb'), '<': ('lt-ltb', 'le-ltb'), '<=': ('le-leb', 'lt-leb'),
+             '>=': ('le-ltb', 'lt-ltb'), '>': ('lt-leb', 'le-leb')}
 
 # The number that a function's `match` is on, where it isn't KIND.
-NUMBER = {'compound': 'args.cell.kind', 'build': 'parts-shape.result'}
+NUMBER = {'compound': 'args.cell.kind', 'line': 'read.result.kind', 'build': 'parts-shape.result'}
 KIND = 'read-cell.result.kind'
 
 # Laws to rewrite by before a call, by its name.
-BEFORE = {'ended_got': 'law.ended_got_end _ _ _', 'ended_two': 'law.ended_two_end _ _ _'}
+BEFORE = {'ended': 'law.ended_end _ _'}
+
+# Calls whose contract says what the result is, where the goal has the result.
+DIRECT = ('refused',)
 
 # The laws of a loop, by its function's name: of a turn, and of the end. The loop's invariant is a bound and an equation.
 LOOPS = {'turns': ('law.rounds_turn _ _ _ _ _ _ _ _ _', 'law.rounds_over _ _ _ _ _ _ _ _ _')}

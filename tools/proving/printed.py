@@ -9,7 +9,7 @@ import tempfile
 
 from .source import read, without_tactic
 
-ANSWERED = re.compile(r'(^|-)(returns(-|$)|loop-.*-preserved$)')
+ANSWERED = re.compile(r'(^|-)(returns(-|$)|loop(-.*)?-preserved$)')
 
 
 class Copy:
@@ -87,6 +87,6 @@ def steps(said, above):
         elif step:
             name, same, fields = step.groups()
             out[name] = out[same] if same else re.findall(r'\.([\w-]+)', re.sub(r'\{.*?\}', '', fields))
-        elif not line.startswith("Rattle's own names"):
+        elif not line.startswith(("Rattle's own names", 'the goal has names')):
             sys.exit('what the check prints is not known: ' + line)
     return out

@@ -1,7 +1,7 @@
 """The answers: one rewriting with the facts on the way to a goal, in the order of the code."""
 import re
 
-from .answers import BEFORE, EQUATIONS, KIND, LOOPS, NUMBER, TESTS
+from .answers import BEFORE, DIRECT, EQUATIONS, KIND, LOOPS, NUMBER, TESTS
 from .source import enters
 
 CHUNK = 6  # entries in one rewriting: a longer one is nested
@@ -43,13 +43,20 @@ def entries(name, function, steps, arms):
         at, kind = 'c.' + step, step.split('-')[0]
         if kind == 'if' or step.endswith('-test'):
             out.append(tested(name, function, step, 'true' if 'true' in fields else 'false'))
+        elif kind == 'branch':
+            out.pop()  # `?` looks at what the call before gives: the next step says of that what the call ensures
+        elif kind == 'in_ok':
+            out.append('← %s.ensures' % at)
+        elif kind == 'in_err':
+            refused = at
+        elif kind == 'from_residual':
+            out += ['law.residual _ _ %s.ensures.1' % at, '← %s.ensures' % refused]
         elif kind in ('in', 'in_default'):
             out.append(at + '.is' if 'is' in fields else unlike(at, fields))
         elif kind == 'loop':
             out.append(at + '.invariant.1')
-        elif kind.startswith('as_'):
-            # It hands a refusal on as another type's: its equation comes before the one that says it is a refusal.
-            out.insert(-1, at + '.ensures')
+        elif kind in DIRECT:
+            out.append(at + '.ensures')
         elif 'ensures' in fields:
             out += [BEFORE[kind]] if kind in BEFORE else []
             out.append('← %s.ensures' % at)
@@ -94,5 +101,5 @@ def uses(crate, cycle, body, unfolded):
     out += ['use borrow.Author.Tests.{%s}' % ', '.join(tests)] if tests else []
     out += ['use %s.{%s}' % (module, ', '.join(sorted(names))) for module, names in sorted(modules.items())]
     out += ['use %s as law' % crate.module('proofs/At')] if 'law.' in body else []
-    out += ['use %s.{steps}' % crate.module('proofs/Steps')] if steps else []
+    out += ['use %s.{%s}' % (crate.module('proofs/Steps'), ', '.join(steps))] if steps else []
     return out + ['use %s as goal' % cycle.module]

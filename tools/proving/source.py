@@ -57,8 +57,9 @@ class Crate:
         return out
 
     def steps(self):
-        "what the one name `steps` unfolds"
-        return words(' '.join(re.findall(r'(?m)^unfolding (.*)$', read(self.folder + '/proofs/Steps.antt'))))
+        "the names of proofs/Steps that answers unfold, and what these unfold"
+        text = read(self.folder + '/proofs/Steps.antt')
+        return [name for name in ('steps', 'stated') if 'pub %s :' % name in text], words(' '.join(re.findall(r'(?m)^unfolding (.*)$', text)))
 
     def unfolds(self, name, function):
         "name -> module, of what the answers of a function unfold: what its contract names, the body that it enters, what is by hand"
@@ -67,10 +68,10 @@ class Crate:
         if entered and entered[0] + '_body' in own:
             out[entered[0] + '_body'] = own[entered[0] + '_body']
         out.update({word: own[word] for word in UNFOLD.get(name, '').split()})
-        if 'machine' in said:
-            steps = self.steps()
+        if 'over' in said:
+            names, steps = self.steps()
             out = {word: module for word, module in out.items() if word not in steps}
-            out['steps'] = self.module('proofs/Steps')
+            out.update({name: self.module('proofs/Steps') for name in names})
         return out
 
 
@@ -92,7 +93,7 @@ def unfoldable(module):
 
 def enters(function):
     "the reference function that a contract says it is, with the number of arguments of its law"
-    m = re.search(r'≡ (?:\(callees left\)\.(\w+)|(\w+) left)(.*?)\(machine', function.contract)
+    m = re.search(r'≡ (?:\(callees left\)\.(\w+)|(\w+) left)(.*?)\(over', function.contract)
     return (m.group(1) or m.group(2), len(m.group(3).split()) + 2) if m else None
 
 

@@ -1,6 +1,8 @@
 """The program: its constants, which are kinds of cells and refusals (crates/ast), judgments and rules (crates/producer); and what it asks
 of a kind, as a match on it, since a constant table would be made anew on the stack at each read."""
-from .common import (ALL, CONTEXTS, INFERENCE, INTERVALS, JUDGMENTS, NOTE, RULED, RULES, TERMS, TRANSFORMS, is_number, refusals, section,
+import re
+
+from .common import (ALL, CONTEXTS, INFERENCE, INTERVALS, JUDGMENTS, NOTE, RULED, RULES, TERMS, TRANSFORMS, antt_name, applied, is_number, refusals, section,
                      whole)
 
 
@@ -42,15 +44,115 @@ def _():
 ''' % (NOTE, '\n\n'.join(groups))
 
 
+# ---- Rules and judgments (crates/producer): enums, their numbers, and what a row has of them
+
+PLACES = 'abcde'
+
+
+# The source has names of its own for the parts of these.
+SOURCE = {'dshiftctx': 'DShiftCtx', 'ishift': 'IShift', 'isubst': 'ISubst', 'dshift': 'DShift', 'dsubst': 'DSubst'}
+
+
+def camel(name):
+    return ''.join(SOURCE.get(part, part[0].upper() + part[1:]) for part in re.split('[-._]', name))
+
+
+def arguments(judgment):
+    return ['x%d' % n for n in range(len(judgment.parts))]
+
+
+def words(judgment, separator, gives):
+    """The words of a row: the kind, how many arguments there are, and these, 0 past the last."""
+    filled = arguments(judgment) + ['0'] * len(PLACES)
+    pairs = [('kind', judgment.number), ('count', len(judgment.parts)), *zip(PLACES, filled)]
+    return separator.join('%s%s%s' % (name, gives, value) for name, value in pairs)
+
+
 @whole('crates/producer/src/codes.rt')
 def _():
-    return f'''// The numbers of docs/FORMAT.md: the kinds of judgments, the rules.
+    rules = ''.join('    %s = %d,\n' % (camel(r.name), r.number) for r in RULES)
+    judgments = ''.join('    // %s.\n    %s(%s),\n' % (j.meaning, camel(j.name), ', '.join(['u32'] * len(j.parts))) for j in JUDGMENTS)
+    arms = ''
+    for j in JUDGMENTS:
+        fields = ''.join('                %s,\n' % field for field in words(j, '\n', ': ').split('\n'))
+        arms += '            Judgment::%s(%s) => Words {\n%s            },\n' % (camel(j.name), ', '.join(arguments(j)), fields)
+    return f'''// The rules and the judgments, with their numbers: docs/FORMAT.md.
 // {NOTE}
+ghost use Rattle.std.specs.Prelude.{{◌≡◌}};
+ghost use Rattle.producer.specs.Judgments.{{rule_number, words_of}};
 
-// Kinds of judgments, as a row's word 19 has them.
-{constants([('IS_' + constant(j.name), j.number) for j in JUDGMENTS])}
-// Rules.
-{constants([(constant(r.name), r.number) for r in RULES])}'''
+// The rule of a row.
+#[derive(Clone, Copy)]
+pub enum Rule {{
+{rules}}}
+
+impl Rule {{
+    // Its number, as a row has it.
+    #[tactic(auto, unfolding(crate::specs::Judgments::rule_number))]
+    pub fn number(self) -> u32
+        ensures {{ result ≡ rule_number self }}
+    {{
+        self as u32
+    }}
+}}
+
+// What a row states: of numbers, and of quotes by their lowest cells.
+#[derive(Clone, Copy)]
+pub enum Judgment {{
+{judgments}}}
+
+// A judgment as a row has it: its kind, how many arguments it has, and these; 0 past the last.
+#[derive(Clone, Copy)]
+pub struct Words {{
+    pub kind: u32,
+    pub count: u32,
+    pub a: u32,
+    pub b: u32,
+    pub c: u32,
+    pub d: u32,
+    pub e: u32,
+}}
+
+impl Judgment {{
+    #[tactic(auto, unfolding(crate::specs::Judgments::words_of))]
+    pub fn words(self) -> Words
+        ensures {{ result ≡ words_of self }}
+    {{
+        match self {{
+{arms}        }}
+    }}
+}}
+'''
+
+
+@whole('crates/producer/specs/Judgments.antt')
+def _():
+    rules = '\n'.join('rule_number rule.%s = R.%s' % (camel(r.name), antt_name(r)) for r in RULES)
+    judgments = '\n'.join('words_of %s = record { %s }' % (applied('judgment.' + camel(j.name), arguments(j)), words(j, '; ', ' = ')) for j in JUDGMENTS)
+    return f'''-- The program's rules by their numbers, its judgments by the words of a row, and the step that adds one. Assumes nothing.
+-- {NOTE}
+use Rattle.std.specs.Prelude.{{ℕ}}
+use Rattle.walk.specs.Rule as R
+use Rattle.producer.specs.declared.codes.Rule.{{Rule}}
+use Rattle.producer.specs.declared.codes.Rule.TheVariants as rule
+use Rattle.producer.specs.declared.codes.Judgment.{{Judgment}}
+use Rattle.producer.specs.declared.codes.Judgment.TheVariants as judgment
+use Rattle.producer.specs.declared.codes.Words.{{Words}}
+use Rattle.producer.specs.declared.rows.Refs.{{Refs}}
+use Rattle.producer.specs.Machine.{{W, emit}}
+
+unfoldable pub rule_number : Rule → ℕ
+{rules}
+
+unfoldable pub words_of : Judgment → Words
+{judgments}
+
+unfoldable pub emit_words : ℕ → Refs → Words → W ℕ
+emit_words n l w = emit n l w.kind w.count w.a w.b w.c w.d w.e
+
+unfoldable pub emit_as : ℕ → Refs → Judgment → W ℕ
+emit_as n l j = emit_words n l (words_of j)
+'''
 
 
 # ---- Rules of the transforms, by kind (crates/producer)
@@ -60,7 +162,7 @@ def _():
     out = []
     for k in RULED:
         out += ['kinds::%s => by_op(' % constant(k.word), '    op,']
-        out += ['    codes::%s,' % constant('%s.%s' % (t, k.tag)) for t in TRANSFORMS] + ['),']
+        out += ['    Rule::%s,' % camel('%s.%s' % (t, k.tag)) for t in TRANSFORMS] + ['),']
     return out
 
 

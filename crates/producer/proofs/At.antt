@@ -9,13 +9,12 @@ use native.Mathlib.Omega.{arith}
 use Rattle.walk.specs.Refusal as Refusal
 use Rattle.ast.specs.declared.cells.Shape.{Shape}
 use Rattle.ast.specs.declared.cells.Shape.TheVariants.{Universe, Pi, Lam, Path, Plam, Sigma, Pair, Other}
-use Rattle.producer.specs.declared.answers.Got.{Got}
-use Rattle.producer.specs.declared.answers.Got.TheVariants as got
-use Rattle.producer.specs.declared.answers.Two.{Two}
-use Rattle.producer.specs.declared.answers.Two.TheVariants as two
+use Rattle.std.specs.Prelude.{Result, Ok, Err, IsErrAnd}
+use Rattle.producer.specs.declared.Tables.{Tables}
 use Rattle.producer.specs.declared.intervals.IOp.{IOp}
 use Rattle.producer.specs.declared.transforms.Op.{Op}
-use Rattle.producer.specs.Machine.{Machine, W, next, ◌>>=◌, give, stop, enter, note, end, end_2, ended, ended_1, ended_2, on_universe, on_pi, on_lam, on_path, on_plam, on_sigma, on_pair}
+use Rattle.producer.specs.Machine.{Machine, W, next, ◌>>=◌, give, stop, enter, note, ended, on_universe, on_pi, on_lam, on_path, on_plam, on_sigma, on_pair}
+use Rattle.producer.specs.Answers.{Answer, end, ended_answer}
 use Rattle.producer.specs.Callees.{Callees}
 use Rattle.producer.specs.Calls.{none_left, entered, callees}
 use Rattle.producer.specs.Numbers.{comparison_body, max_body}
@@ -24,6 +23,11 @@ use Rattle.producer.specs.Transforms.{transform_body, under_body}
 use Rattle.producer.specs.Contexts.{lookup_body, dshiftctx_body}
 use Rattle.producer.specs.Typing.{ctx_body, infer_body, universe_body, check_body, expose_body}
 use Rattle.producer.specs.Equality.{normalize_body, equal_body, reduce_body, round, rounds, on_step, on_next}
+
+-- where `?` returns early, the refusal is the one that was met
+pub residual : {A E : Type 0} (r : Result A E) (e : E) → IsErrAnd r (λ x. x ≡ e) → r ≡ Err e
+residual (Ok x) e h = elim h [ ]
+residual (Err x) e h = rw h
 
 pub ready_none : (k : ℕ) (w : Machine) → k ≡ 0 → (callees k).ready w ≡ stop Refusal.nesting w
 unfolding callees none_left
@@ -179,15 +183,10 @@ max_in zero m n w h = absurd (h refl)
 max_in (suc k) m n w h = rw sub-one
 
 -- a conversion that has ended
-pub ended_got_end : (q : Got) (R C : List ℕ) → ended (end q R C) ≡ end (ended_1 q) R C
-unfolding ended end ended_1
-ended_got_end (got.Is s x) R C = refl
-ended_got_end (got.Refused s e) R C = refl
-
-pub ended_two_end : (q : Two) (R C : List ℕ) → ended (end_2 q R C) ≡ end_2 (ended_2 q) R C
-unfolding ended end_2 ended_2
-ended_two_end (two.Pair s x y) R C = refl
-ended_two_end (two.Refused s e) R C = refl
+pub ended_end : {A : Type 0} (q : Answer A) (t : Tables) → ended (end q t) ≡ end (ended_answer q) t
+unfolding ended end ended_answer
+ended_end (Ok (s, x)) t = refl
+ended_end (Err e) t = refl
 
 -- a shape that is not the one taken apart
 

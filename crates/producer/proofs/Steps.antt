@@ -1,8 +1,10 @@
 -- What the proof of every method unfolds: the steps of the machine, and the ends that its answers are. No step here is the whole of
 -- a method's contract: those stay shut where the method is called. Assumes nothing.
-use Rattle.producer.specs.Answers.{two_as_got, two_as_four, two_as_inferred, two_as_reduced, got_as_two, got_as_four, got_as_inferred, got_as_reduced, got_as_round, four_as_inferred, inferred_as_two, done_as_two}
+use Rattle.producer.specs.Judgments.{rule_number, words_of, emit_words, emit_as}
+use Rattle.producer.specs.Machine.{refs_of, refs_1, refs_2, refs_3, refs_4, refs_5, refs_6, refs_7, refs_10}
+use Rattle.producer.specs.Answers.{refused_of, end, end_state, end_found, end_step, end_round}
 use Rattle.producer.specs.Equality.{on_step, on_next}
-use Rattle.producer.specs.Machine.{next, ◌>>=◌, give, stop, when◌then◌else◌, open_cell, lowest, same_quote, at_universe, at_pi, at_lam, at_path, at_plam, at_sigma, at_pair, on_universe, on_pi, on_lam, on_path, on_plam, on_sigma, on_pair, converting, recall_or, recalled_or, enter, note, end_0, end, end_2, end_4, end_cited, end_inner, end_found, end_step, end_round}
+use Rattle.producer.specs.Machine.{next, ◌>>=◌, give, stop, when◌then◌else◌, open_cell, lowest, same_quote, at_universe, at_pi, at_lam, at_path, at_plam, at_sigma, at_pair, on_universe, on_pi, on_lam, on_path, on_plam, on_sigma, on_pair, converting, recall_or, recalled_or, enter, note}
 use Rattle.producer.specs.Numbers.{lt_by, le_by}
 use Rattle.producer.specs.Typing.{found, ctx_by}
 
@@ -14,5 +16,10 @@ shapes = tt
 -- end of shapes
 
 unfoldable pub steps : Unit {0}
-unfolding next ◌>>=◌ give stop when◌then◌else◌ open_cell lowest same_quote shapes converting recall_or recalled_or found on_step on_next enter note ctx_by lt_by le_by end_0 end end_2 end_4 end_cited end_inner end_found end_step end_round two_as_got two_as_four two_as_inferred two_as_reduced got_as_two got_as_four got_as_inferred got_as_reduced got_as_round four_as_inferred inferred_as_two done_as_two
+unfolding next ◌>>=◌ give stop when◌then◌else◌ open_cell lowest same_quote shapes converting recall_or recalled_or found on_step on_next enter note ctx_by lt_by le_by refused_of end end_state end_found end_step end_round
 steps = tt
+
+-- what a row states: its rule, its judgment and the rows cited
+unfoldable pub stated : Unit {0}
+unfolding rule_number words_of emit_words emit_as refs_of refs_1 refs_2 refs_3 refs_4 refs_5 refs_6 refs_7 refs_10
+stated = tt

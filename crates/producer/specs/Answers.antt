@@ -1,63 +1,47 @@
--- The refusal of one answer as another's; an answer that is none is refused with 0. Assumes nothing.
-use Rattle.producer.specs.declared.answers.Done.{Done}
-use Rattle.producer.specs.declared.answers.Done.TheVariants as done
-use Rattle.producer.specs.declared.answers.Four.{Four}
-use Rattle.producer.specs.declared.answers.Four.TheVariants as four
-use Rattle.producer.specs.declared.answers.Got.{Got}
-use Rattle.producer.specs.declared.answers.Got.TheVariants as got
-use Rattle.producer.specs.declared.answers.Inferred.{Inferred}
-use Rattle.producer.specs.declared.answers.Inferred.TheVariants as inferred
-use Rattle.producer.specs.declared.answers.Reduced.{Reduced}
-use Rattle.producer.specs.declared.answers.Reduced.TheVariants as reduced
-use Rattle.producer.specs.declared.answers.Round.{Round}
-use Rattle.producer.specs.declared.answers.Round.TheVariants as round
-use Rattle.producer.specs.declared.answers.Two.{Two}
-use Rattle.producer.specs.declared.answers.Two.TheVariants as two
+-- The answers of the methods, with the words that they leave, as ends of steps. Assumes nothing.
+use Rattle.std.specs.Prelude.{ℕ, ◌-◌, Result, Ok, Err, Some, None}
+use Rattle.std.specs.Prelude as program
+use Rattle.std.proofs.Math.Option.{Option, none, some}
+use Rattle.producer.specs.declared.State.{State}
+use Rattle.producer.specs.declared.Tables.{Tables}
+use Rattle.producer.specs.declared.answers.Refused.{Refused}
+use Rattle.producer.specs.declared.codes.Rule.{Rule}
+use Rattle.producer.specs.declared.rows.Refs.{Refs}
+use Rattle.producer.specs.Machine as step
+use Rattle.producer.specs.Machine.{Finding, Reduction, over, conversions_of}
+use Rattle.producer.specs.Judgments.{rule_number}
 
-unfoldable pub two_as_got : Two → Got
-two_as_got (two.Pair s _ _) = got.Refused s 0
-two_as_got (two.Refused s e) = got.Refused s e
+-- the counts with what was found, or a refusal
+abbrev pub Answer : Type 0 → Type 0
+Answer A = Result (State × A) Refused
 
-unfoldable pub two_as_four : Two → Four
-two_as_four (two.Pair s _ _) = four.Refused s 0
-two_as_four (two.Refused s e) = four.Refused s e
+unfoldable pub refused_of : State → ℕ → Refused
+refused_of s n = record { state = s; number = n }
 
-unfoldable pub two_as_inferred : Two → Inferred
-two_as_inferred (two.Pair s _ _) = inferred.Refused s 0
-two_as_inferred (two.Refused s e) = inferred.Refused s e
+unfoldable pub end : {A : Type 0} → Answer A → Tables → step.Result A
+end (Ok (s, x)) t = step.is x (over t s)
+end (Err e) t = step.not e.number (over t e.state)
 
-unfoldable pub two_as_reduced : Two → Reduced
-two_as_reduced (two.Pair s _ _) = reduced.Refused s 0
-two_as_reduced (two.Refused s e) = reduced.Refused s e
+-- an answer of the counts alone
+unfoldable pub end_state : Result State Refused → Tables → step.Result (Unit {0})
+end_state (Ok s) t = step.is tt (over t s)
+end_state (Err e) t = step.not e.number (over t e.state)
 
-unfoldable pub got_as_two : Got → Two
-got_as_two (got.Is s _) = two.Refused s 0
-got_as_two (got.Refused s e) = two.Refused s e
+unfoldable pub end_found : Answer (ℕ × Refs × Rule) → Tables → step.Result Finding
+end_found (Ok (s, (ty, refs, rule))) t = step.is (record { type = ty; refs = refs; rule = rule_number rule }) (over t s)
+end_found (Err e) t = step.not e.number (over t e.state)
 
-unfoldable pub got_as_four : Got → Four
-got_as_four (got.Is s _) = four.Refused s 0
-got_as_four (got.Refused s e) = four.Refused s e
+unfoldable pub end_step : Answer (program.Option (ℕ × ℕ × ℕ)) → Tables → step.Result (Option Reduction)
+end_step (Ok (s, Some (term, ty, row))) t = step.is (some (record { term = term; type = ty; row = row })) (over t s)
+end_step (Ok (s, None)) t = step.is none (over t s)
+end_step (Err e) t = step.not e.number (over t e.state)
 
-unfoldable pub got_as_inferred : Got → Inferred
-got_as_inferred (got.Is s _) = inferred.Refused s 0
-got_as_inferred (got.Refused s e) = inferred.Refused s e
+unfoldable pub end_round : Answer (program.Option (ℕ × ℕ)) → Tables → step.Result (Option (ℕ × ℕ))
+end_round (Ok (s, Some x)) t = step.is (some x) (over t s)
+end_round (Ok (s, None)) t = step.is none (over t s)
+end_round (Err e) t = step.not e.number (over t e.state)
 
-unfoldable pub got_as_reduced : Got → Reduced
-got_as_reduced (got.Is s _) = reduced.Refused s 0
-got_as_reduced (got.Refused s e) = reduced.Refused s e
-
-unfoldable pub got_as_round : Got → Round
-got_as_round (got.Is s _) = round.Refused s 0
-got_as_round (got.Refused s e) = round.Refused s e
-
-unfoldable pub four_as_inferred : Four → Inferred
-four_as_inferred (four.Each s _ _ _ _) = inferred.Refused s 0
-four_as_inferred (four.Refused s e) = inferred.Refused s e
-
-unfoldable pub inferred_as_two : Inferred → Two
-inferred_as_two (inferred.Has s _ _ _) = two.Refused s 0
-inferred_as_two (inferred.Refused s e) = two.Refused s e
-
-unfoldable pub done_as_two : Done → Two
-done_as_two (done.Ready s) = two.Refused s 0
-done_as_two (done.Refused s e) = two.Refused s e
+-- a conversion has ended
+unfoldable pub ended_answer : {A : Type 0} → Answer A → Answer A
+ended_answer (Ok (s, x)) = Ok (conversions_of (s.conversions - 1) s, x)
+ended_answer (Err e) = Err (record { state = conversions_of (e.state.conversions - 1) e.state; number = e.number })

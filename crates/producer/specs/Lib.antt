@@ -1,4 +1,5 @@
 pub mod Machine
+pub mod Judgments
 pub mod Answers
 pub mod Callees
 pub mod Numbers

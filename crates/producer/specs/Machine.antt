@@ -17,26 +17,9 @@ use Rattle.ast.specs.declared.cells.Found.TheVariants.{At, Nothing}
 use Rattle.ast.specs.declared.cells.Recalled.{Recalled}
 use Rattle.ast.specs.declared.cells.Recalled.TheVariants.{Known, Unknown}
 use Rattle.producer.specs.declared.State.{State}
+use Rattle.producer.specs.declared.Tables.{Tables}
 use Rattle.producer.specs.declared.rows.Refs.{Refs}
 use Rattle.producer.specs.declared.transforms.Op.{Op}
-use Rattle.producer.specs.declared.answers.Done.{Done}
-use Rattle.producer.specs.declared.answers.Done.TheVariants as done
-use Rattle.producer.specs.declared.answers.Got.{Got}
-use Rattle.producer.specs.declared.answers.Got.TheVariants as got
-use Rattle.producer.specs.declared.answers.Two.{Two}
-use Rattle.producer.specs.declared.answers.Two.TheVariants as two
-use Rattle.producer.specs.declared.answers.Four.{Four}
-use Rattle.producer.specs.declared.answers.Four.TheVariants as four
-use Rattle.producer.specs.declared.answers.Cited.{Cited}
-use Rattle.producer.specs.declared.answers.Cited.TheVariants as cited
-use Rattle.producer.specs.declared.answers.Inferred.{Inferred}
-use Rattle.producer.specs.declared.answers.Inferred.TheVariants as inferred
-use Rattle.producer.specs.declared.answers.Reduced.{Reduced}
-use Rattle.producer.specs.declared.answers.Reduced.TheVariants as reduced
-use Rattle.producer.specs.declared.answers.Round.{Round}
-use Rattle.producer.specs.declared.answers.Round.TheVariants as round
-use Rattle.producer.specs.declared.transforms.Inner.{Inner}
-use Rattle.producer.specs.declared.transforms.Inner.TheVariants as inner
 
 -- the words of both slices, and the counts
 pub record Machine : Type 0 where
@@ -46,6 +29,10 @@ pub record Machine : Type 0 where
 
 abbrev pub machine : List ℕ → List ℕ → State → Machine
 machine R C s = record { rows = R; cells = C; state = s }
+
+-- the lent slices with the counts
+abbrev pub over : Tables → State → Machine
+over t s = machine t.rows.now t.cells.now s
 
 -- no rows, cells or memory, with a nesting limit and room for so many rows and cells
 abbrev pub new_state : (limit rowroom cellroom : ℕ) → State
@@ -93,46 +80,6 @@ pub record Finding : Type 0 where
   pub type : ℕ
   pub refs : Refs
   pub rule : ℕ
-
--- the methods' answers, with the words that they leave, as ends of steps
-
-unfoldable pub end_0 : Done → List ℕ → List ℕ → Result (Unit {0})
-end_0 (done.Ready s) R C = is tt (machine R C s)
-end_0 (done.Refused s e) R C = not e (machine R C s)
-
-unfoldable pub end : Got → List ℕ → List ℕ → Result ℕ
-end (got.Is s x) R C = is x (machine R C s)
-end (got.Refused s e) R C = not e (machine R C s)
-
-unfoldable pub end_2 : Two → List ℕ → List ℕ → Result (ℕ × ℕ)
-end_2 (two.Pair s x y) R C = is (x, y) (machine R C s)
-end_2 (two.Refused s e) R C = not e (machine R C s)
-
-unfoldable pub end_4 : Four → List ℕ → List ℕ → Result (ℕ × ℕ × ℕ × ℕ)
-end_4 (four.Each s x y z u) R C = is (x, y, z, u) (machine R C s)
-end_4 (four.Refused s e) R C = not e (machine R C s)
-
-unfoldable pub end_cited : Cited → List ℕ → List ℕ → Result (ℕ × Refs)
-end_cited (cited.With s x l) R C = is (x, l) (machine R C s)
-end_cited (cited.Refused s e) R C = not e (machine R C s)
-
-unfoldable pub end_inner : Inner → List ℕ → List ℕ → Result (Op × Refs)
-end_inner (inner.Within s op l) R C = is (op, l) (machine R C s)
-end_inner (inner.Refused s e) R C = not e (machine R C s)
-
-unfoldable pub end_found : Inferred → List ℕ → List ℕ → Result Finding
-end_found (inferred.Has s ty l rule) R C = is (record { type = ty; refs = l; rule = rule }) (machine R C s)
-end_found (inferred.Refused s e) R C = not e (machine R C s)
-
-unfoldable pub end_step : Reduced → List ℕ → List ℕ → Result (Option Reduction)
-end_step (reduced.Step s t ty row) R C = is (some (record { term = t; type = ty; row = row })) (machine R C s)
-end_step (reduced.Whole s) R C = is none (machine R C s)
-end_step (reduced.Refused s e) R C = not e (machine R C s)
-
-unfoldable pub end_round : Round → List ℕ → List ℕ → Result (Option (ℕ × ℕ))
-end_round (round.Next s t row) R C = is (some (t, row)) (machine R C s)
-end_round (round.Over s) R C = is none (machine R C s)
-end_round (round.Refused s e) R C = not e (machine R C s)
 
 -- cells
 
@@ -345,6 +292,10 @@ no_refs = record { count = 0; r0 = 0; r1 = 0; r2 = 0; r3 = 0; r4 = 0; r5 = 0; r6
 unfoldable pub cons_refs : ℕ → Refs → Refs
 cons_refs x l = record { count = up l.count; r0 = x; r1 = l.r0; r2 = l.r1; r3 = l.r2; r4 = l.r3; r5 = l.r4; r6 = l.r5; r7 = l.r6; r8 = l.r7; r9 = l.r8 }
 
+unfoldable pub refs_of : List ℕ → Refs
+refs_of [] = no_refs
+refs_of (x ∷ l) = cons_refs x (refs_of l)
+
 -- the first row of the one, where it has any, before the other
 unfoldable pub join_refs : Refs → Refs → Refs
 join_refs k l = ifb (eqb k.count 0) l (cons_refs k.r0 l)
@@ -463,15 +414,6 @@ ended (not n w) = not n (with_conversions (w.state.conversions - 1) w)
 
 unfoldable pub converting : {A : Type 0} → W A → W A
 converting m = λ w. ifb (ltb w.state.conversions 32) (ended (m (with_conversions (w.state.conversions + 1) w))) (not Refusal.conversions w)
-
--- the same of an answer
-unfoldable pub ended_1 : Got → Got
-ended_1 (got.Is s x) = got.Is (conversions_of (s.conversions - 1) s) x
-ended_1 (got.Refused s e) = got.Refused (conversions_of (s.conversions - 1) s) e
-
-unfoldable pub ended_2 : Two → Two
-ended_2 (two.Pair s x y) = two.Pair (conversions_of (s.conversions - 1) s) x y
-ended_2 (two.Refused s e) = two.Refused (conversions_of (s.conversions - 1) s) e
 
 -- entries
 

@@ -1,268 +1,328 @@
-// The numbers of docs/FORMAT.md: the kinds of judgments, the rules.
+// The rules and the judgments, with their numbers: docs/FORMAT.md.
 // Written by tools/written.py from tools/language.py; `python3 tools/written.py` makes it again.
-
-// Kinds of judgments, as a row's word 19 has them.
-pub const IS_CTX: u32 = 0;
-
-pub const IS_DSHIFTCTX: u32 = 1;
-
-pub const IS_LOOKUP: u32 = 2;
-
-pub const IS_LT: u32 = 3;
-
-pub const IS_LE: u32 = 4;
-
-pub const IS_MAX: u32 = 5;
-
-pub const IS_INTERVAL: u32 = 6;
-
-pub const IS_ISHIFT: u32 = 7;
-
-pub const IS_ISUBST: u32 = 8;
-
-pub const IS_SHIFT: u32 = 9;
-
-pub const IS_SUBST: u32 = 10;
-
-pub const IS_DSHIFT: u32 = 11;
-
-pub const IS_DSUBST: u32 = 12;
-
-pub const IS_HAS: u32 = 13;
-
-pub const IS_EQ: u32 = 14;
-
-// Rules.
-pub const CTX_NIL: u32 = 0;
-
-pub const CTX_CONS: u32 = 1;
-
-pub const DSHIFTCTX_NIL: u32 = 2;
-
-pub const DSHIFTCTX_CONS: u32 = 3;
-
-pub const LOOKUP_Z: u32 = 4;
-
-pub const LOOKUP_S: u32 = 5;
-
-pub const LT_Z: u32 = 6;
-
-pub const LT_S: u32 = 7;
-
-pub const LE_Z: u32 = 8;
-
-pub const LE_S: u32 = 9;
-
-pub const MAX_Z: u32 = 10;
-
-pub const MAX_SZ: u32 = 11;
-
-pub const MAX_SS: u32 = 12;
-
-pub const INTERVAL_0: u32 = 13;
-
-pub const INTERVAL_1: u32 = 14;
-
-pub const INTERVAL_DIM: u32 = 15;
-
-pub const INTERVAL_NEG: u32 = 16;
-
-pub const INTERVAL_MEET: u32 = 17;
-
-pub const INTERVAL_JOIN: u32 = 18;
-
-pub const ISHIFT_0: u32 = 19;
-
-pub const ISHIFT_1: u32 = 20;
-
-pub const ISHIFT_DIM_LT: u32 = 21;
-
-pub const ISHIFT_DIM_GE: u32 = 22;
-
-pub const ISHIFT_NEG: u32 = 23;
-
-pub const ISHIFT_MEET: u32 = 24;
-
-pub const ISHIFT_JOIN: u32 = 25;
-
-pub const ISUBST_0: u32 = 26;
-
-pub const ISUBST_1: u32 = 27;
-
-pub const ISUBST_DIM_HIT: u32 = 28;
-
-pub const ISUBST_DIM_LT: u32 = 29;
-
-pub const ISUBST_DIM_GT: u32 = 30;
-
-pub const ISUBST_NEG: u32 = 31;
-
-pub const ISUBST_MEET: u32 = 32;
-
-pub const ISUBST_JOIN: u32 = 33;
-
-pub const SHIFT_U: u32 = 34;
-
-pub const SHIFT_NAT: u32 = 35;
-
-pub const SHIFT_ZERO: u32 = 36;
-
-pub const SHIFT_V_LT: u32 = 37;
-
-pub const SHIFT_V_GE: u32 = 38;
-
-pub const SHIFT_PI: u32 = 39;
-
-pub const SHIFT_LAM: u32 = 40;
-
-pub const SHIFT_APP: u32 = 41;
-
-pub const SHIFT_PATH: u32 = 42;
-
-pub const SHIFT_PLAM: u32 = 43;
-
-pub const SHIFT_PAPP: u32 = 44;
-
-pub const SUBST_U: u32 = 45;
-
-pub const SUBST_NAT: u32 = 46;
-
-pub const SUBST_ZERO: u32 = 47;
-
-pub const SUBST_V_HIT: u32 = 48;
-
-pub const SUBST_V_LT: u32 = 49;
-
-pub const SUBST_V_GT: u32 = 50;
-
-pub const SUBST_PI: u32 = 51;
-
-pub const SUBST_LAM: u32 = 52;
-
-pub const SUBST_APP: u32 = 53;
-
-pub const SUBST_PATH: u32 = 54;
-
-pub const SUBST_PLAM: u32 = 55;
-
-pub const SUBST_PAPP: u32 = 56;
-
-pub const DSHIFT_U: u32 = 57;
-
-pub const DSHIFT_NAT: u32 = 58;
-
-pub const DSHIFT_ZERO: u32 = 59;
-
-pub const DSHIFT_V: u32 = 60;
-
-pub const DSHIFT_PI: u32 = 61;
-
-pub const DSHIFT_LAM: u32 = 62;
-
-pub const DSHIFT_APP: u32 = 63;
-
-pub const DSHIFT_PATH: u32 = 64;
-
-pub const DSHIFT_PLAM: u32 = 65;
-
-pub const DSHIFT_PAPP: u32 = 66;
-
-pub const DSUBST_U: u32 = 67;
-
-pub const DSUBST_NAT: u32 = 68;
-
-pub const DSUBST_ZERO: u32 = 69;
-
-pub const DSUBST_V: u32 = 70;
-
-pub const DSUBST_PI: u32 = 71;
-
-pub const DSUBST_LAM: u32 = 72;
-
-pub const DSUBST_APP: u32 = 73;
-
-pub const DSUBST_PATH: u32 = 74;
-
-pub const DSUBST_PLAM: u32 = 75;
-
-pub const DSUBST_PAPP: u32 = 76;
-
-pub const TYPE_U: u32 = 77;
-
-pub const TYPE_NAT: u32 = 78;
-
-pub const TYPE_ZERO: u32 = 79;
-
-pub const TYPE_V: u32 = 80;
-
-pub const TYPE_PI: u32 = 81;
-
-pub const TYPE_LAM: u32 = 82;
-
-pub const TYPE_APP: u32 = 83;
-
-pub const TYPE_PATH: u32 = 84;
-
-pub const TYPE_PLAM: u32 = 85;
-
-pub const TYPE_PAPP: u32 = 86;
-
-pub const TYPE_CONV: u32 = 87;
-
-pub const EQ_REFL: u32 = 88;
-
-pub const EQ_SYM: u32 = 89;
-
-pub const EQ_TRANS: u32 = 90;
-
-pub const EQ_BETA: u32 = 91;
-
-pub const EQ_PBETA: u32 = 92;
-
-pub const EQ_P0: u32 = 93;
-
-pub const EQ_P1: u32 = 94;
-
-pub const TYPE_SIGMA: u32 = 95;
-
-pub const TYPE_PAIR: u32 = 96;
-
-pub const TYPE_FST: u32 = 97;
-
-pub const TYPE_SND: u32 = 98;
-
-pub const EQ_FST_BETA: u32 = 99;
-
-pub const EQ_SND_BETA: u32 = 100;
-
-pub const SHIFT_SIGMA: u32 = 101;
-
-pub const SHIFT_PAIR: u32 = 102;
-
-pub const SHIFT_FST: u32 = 103;
-
-pub const SHIFT_SND: u32 = 104;
-
-pub const SUBST_SIGMA: u32 = 105;
-
-pub const SUBST_PAIR: u32 = 106;
-
-pub const SUBST_FST: u32 = 107;
-
-pub const SUBST_SND: u32 = 108;
-
-pub const DSHIFT_SIGMA: u32 = 109;
-
-pub const DSHIFT_PAIR: u32 = 110;
-
-pub const DSHIFT_FST: u32 = 111;
-
-pub const DSHIFT_SND: u32 = 112;
-
-pub const DSUBST_SIGMA: u32 = 113;
-
-pub const DSUBST_PAIR: u32 = 114;
-
-pub const DSUBST_FST: u32 = 115;
-
-pub const DSUBST_SND: u32 = 116;
+ghost use Rattle.std.specs.Prelude.{◌≡◌};
+ghost use Rattle.producer.specs.Judgments.{rule_number, words_of};
+
+// The rule of a row.
+#[derive(Clone, Copy)]
+pub enum Rule {
+    CtxNil = 0,
+    CtxCons = 1,
+    DShiftCtxNil = 2,
+    DShiftCtxCons = 3,
+    LookupZ = 4,
+    LookupS = 5,
+    LtZ = 6,
+    LtS = 7,
+    LeZ = 8,
+    LeS = 9,
+    MaxZ = 10,
+    MaxSz = 11,
+    MaxSs = 12,
+    Interval0 = 13,
+    Interval1 = 14,
+    IntervalDim = 15,
+    IntervalNeg = 16,
+    IntervalMeet = 17,
+    IntervalJoin = 18,
+    IShift0 = 19,
+    IShift1 = 20,
+    IShiftDimLt = 21,
+    IShiftDimGe = 22,
+    IShiftNeg = 23,
+    IShiftMeet = 24,
+    IShiftJoin = 25,
+    ISubst0 = 26,
+    ISubst1 = 27,
+    ISubstDimHit = 28,
+    ISubstDimLt = 29,
+    ISubstDimGt = 30,
+    ISubstNeg = 31,
+    ISubstMeet = 32,
+    ISubstJoin = 33,
+    ShiftU = 34,
+    ShiftNat = 35,
+    ShiftZero = 36,
+    ShiftVLt = 37,
+    ShiftVGe = 38,
+    ShiftPi = 39,
+    ShiftLam = 40,
+    ShiftApp = 41,
+    ShiftPath = 42,
+    ShiftPlam = 43,
+    ShiftPapp = 44,
+    SubstU = 45,
+    SubstNat = 46,
+    SubstZero = 47,
+    SubstVHit = 48,
+    SubstVLt = 49,
+    SubstVGt = 50,
+    SubstPi = 51,
+    SubstLam = 52,
+    SubstApp = 53,
+    SubstPath = 54,
+    SubstPlam = 55,
+    SubstPapp = 56,
+    DShiftU = 57,
+    DShiftNat = 58,
+    DShiftZero = 59,
+    DShiftV = 60,
+    DShiftPi = 61,
+    DShiftLam = 62,
+    DShiftApp = 63,
+    DShiftPath = 64,
+    DShiftPlam = 65,
+    DShiftPapp = 66,
+    DSubstU = 67,
+    DSubstNat = 68,
+    DSubstZero = 69,
+    DSubstV = 70,
+    DSubstPi = 71,
+    DSubstLam = 72,
+    DSubstApp = 73,
+    DSubstPath = 74,
+    DSubstPlam = 75,
+    DSubstPapp = 76,
+    TypeU = 77,
+    TypeNat = 78,
+    TypeZero = 79,
+    TypeV = 80,
+    TypePi = 81,
+    TypeLam = 82,
+    TypeApp = 83,
+    TypePath = 84,
+    TypePlam = 85,
+    TypePapp = 86,
+    TypeConv = 87,
+    EqRefl = 88,
+    EqSym = 89,
+    EqTrans = 90,
+    EqBeta = 91,
+    EqPbeta = 92,
+    EqP0 = 93,
+    EqP1 = 94,
+    TypeSigma = 95,
+    TypePair = 96,
+    TypeFst = 97,
+    TypeSnd = 98,
+    EqFstBeta = 99,
+    EqSndBeta = 100,
+    ShiftSigma = 101,
+    ShiftPair = 102,
+    ShiftFst = 103,
+    ShiftSnd = 104,
+    SubstSigma = 105,
+    SubstPair = 106,
+    SubstFst = 107,
+    SubstSnd = 108,
+    DShiftSigma = 109,
+    DShiftPair = 110,
+    DShiftFst = 111,
+    DShiftSnd = 112,
+    DSubstSigma = 113,
+    DSubstPair = 114,
+    DSubstFst = 115,
+    DSubstSnd = 116,
+}
+
+impl Rule {
+    // Its number, as a row has it.
+    #[tactic(auto, unfolding(crate::specs::Judgments::rule_number))]
+    pub fn number(self) -> u32
+        ensures { result ≡ rule_number self }
+    {
+        self as u32
+    }
+}
+
+// What a row states: of numbers, and of quotes by their lowest cells.
+#[derive(Clone, Copy)]
+pub enum Judgment {
+    // g is a context.
+    Ctx(u32, u32),
+    // h is g with its dimensions up by one; k is 0.
+    DShiftCtx(u32, u32, u32),
+    // variable n of g has the type A, over the whole of g.
+    Lookup(u32, u32, u32),
+    // m < n.
+    Lt(u32, u32),
+    // m ≤ n.
+    Le(u32, u32),
+    // k is the larger of m and n.
+    Max(u32, u32, u32),
+    // the dimensions of r are below d.
+    Interval(u32, u32),
+    // r' is r with its dimensions from k on up by one.
+    IShift(u32, u32, u32),
+    // r' is r with s for dimension k.
+    ISubst(u32, u32, u32, u32),
+    // t' is t with its variables from k on up by one.
+    Shift(u32, u32, u32),
+    // t' is t with s for variable k.
+    Subst(u32, u32, u32, u32),
+    // t' is t with its dimensions from k on up by one.
+    DShift(u32, u32, u32),
+    // t' is t with r for dimension k.
+    DSubst(u32, u32, u32, u32),
+    // t has the type A.
+    Has(u32, u32, u32, u32),
+    // a and b are equal at the type A.
+    Eq(u32, u32, u32, u32, u32),
+}
+
+// A judgment as a row has it: its kind, how many arguments it has, and these; 0 past the last.
+#[derive(Clone, Copy)]
+pub struct Words {
+    pub kind: u32,
+    pub count: u32,
+    pub a: u32,
+    pub b: u32,
+    pub c: u32,
+    pub d: u32,
+    pub e: u32,
+}
+
+impl Judgment {
+    #[tactic(auto, unfolding(crate::specs::Judgments::words_of))]
+    pub fn words(self) -> Words
+        ensures { result ≡ words_of self }
+    {
+        match self {
+            Judgment::Ctx(x0, x1) => Words {
+                kind: 0,
+                count: 2,
+                a: x0,
+                b: x1,
+                c: 0,
+                d: 0,
+                e: 0,
+            },
+            Judgment::DShiftCtx(x0, x1, x2) => Words {
+                kind: 1,
+                count: 3,
+                a: x0,
+                b: x1,
+                c: x2,
+                d: 0,
+                e: 0,
+            },
+            Judgment::Lookup(x0, x1, x2) => Words {
+                kind: 2,
+                count: 3,
+                a: x0,
+                b: x1,
+                c: x2,
+                d: 0,
+                e: 0,
+            },
+            Judgment::Lt(x0, x1) => Words {
+                kind: 3,
+                count: 2,
+                a: x0,
+                b: x1,
+                c: 0,
+                d: 0,
+                e: 0,
+            },
+            Judgment::Le(x0, x1) => Words {
+                kind: 4,
+                count: 2,
+                a: x0,
+                b: x1,
+                c: 0,
+                d: 0,
+                e: 0,
+            },
+            Judgment::Max(x0, x1, x2) => Words {
+                kind: 5,
+                count: 3,
+                a: x0,
+                b: x1,
+                c: x2,
+                d: 0,
+                e: 0,
+            },
+            Judgment::Interval(x0, x1) => Words {
+                kind: 6,
+                count: 2,
+                a: x0,
+                b: x1,
+                c: 0,
+                d: 0,
+                e: 0,
+            },
+            Judgment::IShift(x0, x1, x2) => Words {
+                kind: 7,
+                count: 3,
+                a: x0,
+                b: x1,
+                c: x2,
+                d: 0,
+                e: 0,
+            },
+            Judgment::ISubst(x0, x1, x2, x3) => Words {
+                kind: 8,
+                count: 4,
+                a: x0,
+                b: x1,
+                c: x2,
+                d: x3,
+                e: 0,
+            },
+            Judgment::Shift(x0, x1, x2) => Words {
+                kind: 9,
+                count: 3,
+                a: x0,
+                b: x1,
+                c: x2,
+                d: 0,
+                e: 0,
+            },
+            Judgment::Subst(x0, x1, x2, x3) => Words {
+                kind: 10,
+                count: 4,
+                a: x0,
+                b: x1,
+                c: x2,
+                d: x3,
+                e: 0,
+            },
+            Judgment::DShift(x0, x1, x2) => Words {
+                kind: 11,
+                count: 3,
+                a: x0,
+                b: x1,
+                c: x2,
+                d: 0,
+                e: 0,
+            },
+            Judgment::DSubst(x0, x1, x2, x3) => Words {
+                kind: 12,
+                count: 4,
+                a: x0,
+                b: x1,
+                c: x2,
+                d: x3,
+                e: 0,
+            },
+            Judgment::Has(x0, x1, x2, x3) => Words {
+                kind: 13,
+                count: 4,
+                a: x0,
+                b: x1,
+                c: x2,
+                d: x3,
+                e: 0,
+            },
+            Judgment::Eq(x0, x1, x2, x3, x4) => Words {
+                kind: 14,
+                count: 5,
+                a: x0,
+                b: x1,
+                c: x2,
+                d: x3,
+                e: x4,
+            },
+        }
+    }
+}

@@ -1,136 +1,84 @@
 // Contexts: the dimension shift, and a variable's type.
 ghost use Rattle.std.specs.Prelude.{◌≡◌};
-ghost use Rattle.producer.specs.Machine.{machine, end_2};
-ghost use Rattle.producer.specs.Contexts.{context_row};
+ghost use Rattle.producer.specs.Answers.{end};
+ghost use Rattle.producer.specs.Judgments.{rule_number};
+ghost use Rattle.producer.specs.Machine.{over};
 ghost use Rattle.producer.specs.Calls.{callees};
 
-use crate::answers::{Got, Two};
-use crate::rows::{Refs, cite0, cite1, cite2};
+use crate::answers::Answer;
+use crate::codes::{Judgment, Rule};
+use crate::rows::cite;
 use crate::transforms::Op;
-use crate::{State, codes};
-use ast::cells::{quote, read};
+use crate::{State, Tables};
 use ast::{kinds, refusals};
 
 impl State {
-    // The row of a context or of a type, once that is there: `p` is the quote of the context that it is made from.
-    #[tactic(auto, unfolding(crate::specs::Contexts::context_row, crate::proofs::Steps::steps))]
-    pub fn context_row(
-        self,
-        rows: &mut [u32],
-        cells: &[u32],
-        out: u32,
-        rule: u32,
-        refs: Refs,
-        kind: u32,
-        p: u32,
-        n: u32,
-    ) -> Two
-        ensures { end_2 result rows.new cells.now ≡ context_row out rule refs kind p n (machine rows.old cells.now self) }
-    {
-        let q = quote(cells, out);
-        match self.emit(rows, cells, rule, refs, kind, 3, p, n, q, 0, 0) {
-            Got::Is(s, row) => Two::Pair(s, out, row),
-            Got::Refused(s, e) => Two::Refused(s, e),
-        }
-    }
-
     // The context under one more dimension.
-    pub fn dshiftctx(self, left: u32, rows: &mut [u32], cells: &mut [u32], g: u32) -> Two
-        ensures { end_2 result rows.new cells.new ≡ (callees left).dshiftctx g (machine rows.old cells.old self) }
+    pub fn dshiftctx(self, left: u32, tables: &mut Tables, g: u32) -> Answer<(u32, u32)>
+        ensures { end result tables.new ≡ (callees left).dshiftctx g (over tables.old self) }
     {
         if left == 0 {
-            return Two::Refused(self, refusals::NESTING);
+            return Err(self.refused(refusals::NESTING));
         }
         let down = left - 1;
         let s0 = self.deeper(down);
-        let cell = read(cells, g);
+        let cell = tables.read(g);
         if cell.kind == kinds::NIL {
-            let refs = cite0();
-            return s0.context_row(
-                rows,
-                cells,
-                g,
-                codes::DSHIFTCTX_NIL,
-                refs,
-                codes::IS_DSHIFTCTX,
-                cell.quote,
-                0,
-            );
+            let to = tables.quote(g);
+            let (s, row) = s0.emit(
+                tables,
+                Rule::DShiftCtxNil,
+                cite([]),
+                Judgment::DShiftCtx(cell.quote, 0, to),
+            )?;
+            return Ok((s, (g, row)));
         }
-        let q1 = s0.dshiftctx(down, rows, cells, cell.b);
-        let Two::Pair(s1, rest, x) = q1 else {
-            return q1;
-        };
-        let q2 = s1.transform(down, rows, cells, cell.a, Op::DShift(0));
-        let Two::Pair(s2, last, y) = q2 else {
-            return q2;
-        };
-        match s2.intern(rows, cells, kinds::CONS, last, rest, 0) {
-            Got::Is(s3, out) => {
-                let refs = cite2(x, y);
-                s3.context_row(
-                    rows,
-                    cells,
-                    out,
-                    codes::DSHIFTCTX_CONS,
-                    refs,
-                    codes::IS_DSHIFTCTX,
-                    cell.quote,
-                    0,
-                )
-            }
-            Got::Refused(s3, e) => Two::Refused(s3, e),
-        }
+        let (s1, (rest, x)) = s0.dshiftctx(down, tables, cell.b)?;
+        let (s2, (last, y)) = s1.transform(down, tables, cell.a, Op::DShift(0))?;
+        let (s3, out) = s2.intern(tables, kinds::CONS, last, rest, 0)?;
+        let to = tables.quote(out);
+        let (s, row) = s3.emit(
+            tables,
+            Rule::DShiftCtxCons,
+            cite([x, y]),
+            Judgment::DShiftCtx(cell.quote, 0, to),
+        )?;
+        Ok((s, (out, row)))
     }
 
     // The type of the variable `n`; refuses (8) past the context's end.
-    pub fn lookup(self, left: u32, rows: &mut [u32], cells: &mut [u32], g: u32, n: u32) -> Two
-        ensures { end_2 result rows.new cells.new ≡ (callees left).lookup g n (machine rows.old cells.old self) }
+    pub fn lookup(self, left: u32, tables: &mut Tables, g: u32, n: u32) -> Answer<(u32, u32)>
+        ensures { end result tables.new ≡ (callees left).lookup g n (over tables.old self) }
     {
         if left == 0 {
-            return Two::Refused(self, refusals::NESTING);
+            return Err(self.refused(refusals::NESTING));
         }
         let down = left - 1;
         let s0 = self.deeper(down);
-        let cell = read(cells, g);
+        let cell = tables.read(g);
         if cell.kind == kinds::NIL {
-            return Two::Refused(s0, refusals::UNBOUND);
+            return Err(s0.refused(refusals::UNBOUND));
         }
         if n == 0 {
-            let q1 = s0.transform(down, rows, cells, cell.a, Op::Shift(0));
-            let Two::Pair(s1, ty, x) = q1 else {
-                return q1;
-            };
-            let refs = cite1(x);
-            return s1.context_row(
-                rows,
-                cells,
-                ty,
-                codes::LOOKUP_Z,
-                refs,
-                codes::IS_LOOKUP,
-                cell.quote,
-                n,
-            );
+            let (s1, (ty, x)) = s0.transform(down, tables, cell.a, Op::Shift(0))?;
+            let to = tables.quote(ty);
+            let (s, row) = s1.emit(
+                tables,
+                Rule::LookupZ,
+                cite([x]),
+                Judgment::Lookup(cell.quote, n, to),
+            )?;
+            return Ok((s, (ty, row)));
         }
-        let q2 = s0.lookup(down, rows, cells, cell.b, n - 1);
-        let Two::Pair(s2, outer, x) = q2 else {
-            return q2;
-        };
-        let q3 = s2.transform(down, rows, cells, outer, Op::Shift(0));
-        let Two::Pair(s3, ty, y) = q3 else {
-            return q3;
-        };
-        let refs = cite2(x, y);
-        s3.context_row(
-            rows,
-            cells,
-            ty,
-            codes::LOOKUP_S,
-            refs,
-            codes::IS_LOOKUP,
-            cell.quote,
-            n,
-        )
+        let (s2, (outer, x)) = s0.lookup(down, tables, cell.b, n - 1)?;
+        let (s3, (ty, y)) = s2.transform(down, tables, outer, Op::Shift(0))?;
+        let to = tables.quote(ty);
+        let (s, row) = s3.emit(
+            tables,
+            Rule::LookupS,
+            cite([x, y]),
+            Judgment::Lookup(cell.quote, n, to),
+        )?;
+        Ok((s, (ty, row)))
     }
 }

@@ -1,11 +1,12 @@
 // The counts of `State`, for a run, a call, and each function that is entered.
 // Every method of `State` that may be refused takes both lent slices, so that all contracts speak of one machine.
 ghost use Rattle.std.specs.Prelude.{◌≡◌};
-ghost use Rattle.producer.specs.Machine.{new_state, fresh, deeper_of, conversions_of, end_0, machine};
+ghost use Rattle.producer.specs.Machine.{new_state, fresh, deeper_of, conversions_of, over};
+ghost use Rattle.producer.specs.Answers.{end_state};
 ghost use Rattle.producer.specs.Calls.{callees};
 
-use crate::State;
-use crate::answers::Done;
+use crate::answers::Refused;
+use crate::{State, Tables};
 use ast::refusals;
 use ast::words::{greater, less};
 
@@ -45,14 +46,13 @@ impl State {
 
     // A call is about to be made, and an argument is to be made for it: refuses (19) before that where nothing is left.
     #[tactic(auto, unfolding(crate::proofs::Steps::steps))]
-    pub fn ready(self, left: u32, rows: &[u32], cells: &[u32]) -> Done
-        ensures { end_0 result rows.now cells.now ≡ (callees left).ready (machine rows.now cells.now self) }
+    pub fn ready(self, left: u32, tables: &mut Tables) -> Result<State, Refused>
+        ensures { end_state result tables.new ≡ (callees left).ready (over tables.old self) }
     {
         if left == 0 {
-            return Done::Refused(self, refusals::NESTING);
+            return Err(self.refused(refusals::NESTING));
         }
-        let s0 = self.deeper(left - 1);
-        Done::Ready(s0)
+        Ok(self.deeper(left - 1))
     }
 
     // With `n` conversions begun.

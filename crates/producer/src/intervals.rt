@@ -1,13 +1,16 @@
 // Intervals: the judgment, and shifts and substitutions of dimensions.
 ghost use Rattle.std.specs.Prelude.{◌≡◌};
-ghost use Rattle.producer.specs.Machine.{machine, end, end_2, intern};
+ghost use Rattle.producer.specs.Answers.{end};
+ghost use Rattle.producer.specs.Judgments.{rule_number};
+ghost use Rattle.producer.specs.Machine.{over, intern};
 ghost use Rattle.producer.specs.Intervals.{interval_parts, by_iop, iemit, ifinished, ifinish, idim_shift, idim_subst, idim, ineg, ipair};
 ghost use Rattle.producer.specs.Calls.{callees};
 
-use crate::answers::{Got, Two};
-use crate::rows::{Refs, cite0, cite1, cite2};
-use crate::{State, codes};
-use ast::cells::{quote, read};
+use crate::answers::Answer;
+use crate::codes::{Judgment, Rule};
+use crate::rows::{Refs, cite};
+use crate::{State, Tables};
+use ast::cells::Cell;
 use ast::words::succ;
 use ast::{kinds, refusals};
 
@@ -20,8 +23,8 @@ pub enum IOp {
 
 // A rule for each operation.
 #[tactic(auto, unfolding(crate::specs::Intervals::by_iop))]
-pub fn by_iop(op: IOp, a: u32, b: u32) -> u32
-    ensures { result ≡ by_iop op a b }
+pub fn by_iop(op: IOp, a: Rule, b: Rule) -> Rule
+    ensures { rule_number result ≡ by_iop op (rule_number a) (rule_number b) }
 {
     match op {
         IOp::IShift(_) => a,
@@ -32,185 +35,72 @@ pub fn by_iop(op: IOp, a: u32, b: u32) -> u32
 impl State {
     // The row of an interval over `d` dimensions.
     #[cycle(interval)]
-    pub fn interval(self, left: u32, rows: &mut [u32], cells: &[u32], d: u32, r: u32) -> Got
-        ensures { end result rows.new cells.now ≡ (callees left).interval d r (machine rows.old cells.now self) }
+    pub fn interval(self, left: u32, tables: &mut Tables, d: u32, r: u32) -> Answer<u32>
+        ensures { end result tables.new ≡ (callees left).interval d r (over tables.old self) }
     {
         if left == 0 {
-            return Got::Refused(self, refusals::NESTING);
+            return Err(self.refused(refusals::NESTING));
         }
         let down = left - 1;
         let s0 = self.deeper(down);
-        let cell = read(cells, r);
-        let kind = cell.kind;
-        match kind {
-            kinds::I0 => {
-                let refs = cite0();
-                return s0.emit(
-                    rows,
-                    cells,
-                    codes::INTERVAL_0,
-                    refs,
-                    codes::IS_INTERVAL,
-                    2,
-                    d,
-                    cell.quote,
-                    0,
-                    0,
-                    0,
-                );
-            }
-            kinds::I1 => {
-                let refs = cite0();
-                return s0.emit(
-                    rows,
-                    cells,
-                    codes::INTERVAL_1,
-                    refs,
-                    codes::IS_INTERVAL,
-                    2,
-                    d,
-                    cell.quote,
-                    0,
-                    0,
-                    0,
-                );
-            }
+        let cell = tables.read(r);
+        let stated = Judgment::Interval(d, cell.quote);
+        match cell.kind {
+            kinds::I0 => s0.emit(tables, Rule::Interval0, cite([]), stated),
+            kinds::I1 => s0.emit(tables, Rule::Interval1, cite([]), stated),
             kinds::DIM => {
-                let q = s0.comparison(down, rows, cells, cell.a, d, true);
-                let Got::Is(s1, x) = q else {
-                    return q;
-                };
-                let refs = cite1(x);
-                return s1.emit(
-                    rows,
-                    cells,
-                    codes::INTERVAL_DIM,
-                    refs,
-                    codes::IS_INTERVAL,
-                    2,
-                    d,
-                    cell.quote,
-                    0,
-                    0,
-                    0,
-                );
+                let (s1, x) = s0.comparison(down, tables, cell.a, d, true)?;
+                s1.emit(tables, Rule::IntervalDim, cite([x]), stated)
             }
             kinds::NEG => {
-                let q = s0.interval(down, rows, cells, d, cell.a);
-                let Got::Is(s1, x) = q else {
-                    return q;
-                };
-                let refs = cite1(x);
-                return s1.emit(
-                    rows,
-                    cells,
-                    codes::INTERVAL_NEG,
-                    refs,
-                    codes::IS_INTERVAL,
-                    2,
-                    d,
-                    cell.quote,
-                    0,
-                    0,
-                    0,
-                );
+                let (s1, x) = s0.interval(down, tables, d, cell.a)?;
+                s1.emit(tables, Rule::IntervalNeg, cite([x]), stated)
             }
-            kinds::MEET => {
-                return s0.interval_parts(
-                    down,
-                    rows,
-                    cells,
-                    d,
-                    cell.quote,
-                    cell.a,
-                    cell.b,
-                    codes::INTERVAL_MEET,
-                );
-            }
-            _ => {}
+            kinds::MEET => s0.interval_parts(down, tables, d, cell, Rule::IntervalMeet),
+            _ => s0.interval_parts(down, tables, d, cell, Rule::IntervalJoin),
         }
-        s0.interval_parts(
-            down,
-            rows,
-            cells,
-            d,
-            cell.quote,
-            cell.a,
-            cell.b,
-            codes::INTERVAL_JOIN,
-        )
     }
 
-    // A meet or a join, whose quote is `quote`.
+    // A meet or a join.
     #[cycle(interval)]
     pub fn interval_parts(
         self,
         left: u32,
-        rows: &mut [u32],
-        cells: &[u32],
+        tables: &mut Tables,
         d: u32,
-        quote: u32,
-        a: u32,
-        b: u32,
-        rule: u32,
-    ) -> Got
-        ensures { end result rows.new cells.now ≡ interval_parts (callees left) d quote a b rule (machine rows.old cells.now self) }
+        cell: Cell,
+        rule: Rule,
+    ) -> Answer<u32>
+        ensures { end result tables.new ≡ interval_parts (callees left) d cell.quote cell.a cell.b (rule_number rule) (over tables.old self) }
     {
-        let q1 = self.interval(left, rows, cells, d, a);
-        let Got::Is(s1, x) = q1 else {
-            return q1;
-        };
-        let q2 = s1.interval(left, rows, cells, d, b);
-        let Got::Is(s2, y) = q2 else {
-            return q2;
-        };
-        let refs = cite2(x, y);
+        let (s1, x) = self.interval(left, tables, d, cell.a)?;
+        let (s2, y) = s1.interval(left, tables, d, cell.b)?;
         s2.emit(
-            rows,
-            cells,
+            tables,
             rule,
-            refs,
-            codes::IS_INTERVAL,
-            2,
-            d,
-            quote,
-            0,
-            0,
-            0,
+            cite([x, y]),
+            Judgment::Interval(d, cell.quote),
         )
     }
 
     // The row of a shift or a substitution, from the quote `p` to the quote `q`.
-    #[tactic(auto, unfolding(crate::specs::Intervals::iemit, crate::proofs::Steps::steps))]
+    #[tactic(auto, unfolding(crate::specs::Intervals::iemit, crate::proofs::Steps::steps, crate::proofs::Steps::stated))]
     pub fn iemit(
         self,
-        rows: &mut [u32],
-        cells: &[u32],
+        tables: &mut Tables,
         op: IOp,
-        rule: u32,
+        rule: Rule,
         refs: Refs,
         p: u32,
         q: u32,
-    ) -> Got
-        ensures { end result rows.new cells.now ≡ iemit op rule refs p q (machine rows.old cells.now self) }
+    ) -> Answer<u32>
+        ensures { end result tables.new ≡ iemit op (rule_number rule) refs p q (over tables.old self) }
     {
         match op {
-            IOp::IShift(k) => self.emit(
-                rows,
-                cells,
-                rule,
-                refs,
-                codes::IS_ISHIFT,
-                3,
-                p,
-                k,
-                q,
-                0,
-                0,
-            ),
+            IOp::IShift(k) => self.emit(tables, rule, refs, Judgment::IShift(p, k, q)),
             IOp::ISubst(k, r) => {
-                let s = quote(cells, r);
-                self.emit(rows, cells, rule, refs, codes::IS_ISUBST, 4, p, k, s, q, 0)
+                let s = tables.quote(r);
+                self.emit(tables, rule, refs, Judgment::ISubst(p, k, s, q))
             }
         }
     }
@@ -219,214 +109,156 @@ impl State {
     #[tactic(auto, unfolding(crate::specs::Intervals::ifinished, crate::proofs::Steps::steps))]
     pub fn ifinish(
         self,
-        rows: &mut [u32],
-        cells: &[u32],
+        tables: &mut Tables,
         i: u32,
         op: IOp,
         out: u32,
-        rule: u32,
+        rule: Rule,
         refs: Refs,
-    ) -> Two
-        ensures { end_2 result rows.new cells.now ≡ ifinished i op out rule refs (machine rows.old cells.now self) }
+    ) -> Answer<(u32, u32)>
+        ensures { end result tables.new ≡ ifinished i op out (rule_number rule) refs (over tables.old self) }
     {
-        let p = quote(cells, i);
-        let q = quote(cells, out);
-        match self.iemit(rows, cells, op, rule, refs, p, q) {
-            Got::Is(s, row) => Two::Pair(s, out, row),
-            Got::Refused(s, e) => Two::Refused(s, e),
-        }
+        let p = tables.quote(i);
+        let q = tables.quote(out);
+        let (s, row) = self.iemit(tables, op, rule, refs, p, q)?;
+        Ok((s, (out, row)))
     }
 
     // The result is made, then the row.
     #[tactic(auto, unfolding(crate::specs::Intervals::ifinish, crate::proofs::Steps::steps))]
     pub fn imake(
         self,
-        rows: &mut [u32],
-        cells: &mut [u32],
+        tables: &mut Tables,
         i: u32,
         op: IOp,
         kind: u32,
         a: u32,
         b: u32,
-        rule: u32,
+        rule: Rule,
         refs: Refs,
-    ) -> Two
-        ensures { end_2 result rows.new cells.new ≡ ifinish i op (intern kind a b 0) rule refs (machine rows.old cells.old self) }
+    ) -> Answer<(u32, u32)>
+        ensures { end result tables.new ≡ ifinish i op (intern kind a b 0) (rule_number rule) refs (over tables.old self) }
     {
-        match self.intern(rows, cells, kind, a, b, 0) {
-            Got::Is(s, out) => s.ifinish(rows, cells, i, op, out, rule, refs),
-            Got::Refused(s, e) => Two::Refused(s, e),
-        }
+        let (s, out) = self.intern(tables, kind, a, b, 0)?;
+        s.ifinish(tables, i, op, out, rule, refs)
     }
 
     // The dimension `n`, shifted from `k` on.
-    #[tactic(auto, unfolding(crate::specs::Intervals::idim_shift, crate::proofs::Steps::steps))]
+    #[tactic(auto, unfolding(crate::specs::Intervals::idim_shift, crate::proofs::Steps::steps, crate::proofs::Steps::stated))]
     pub fn idim_shift(
         self,
         left: u32,
-        rows: &mut [u32],
-        cells: &mut [u32],
+        tables: &mut Tables,
         i: u32,
         n: u32,
         k: u32,
-    ) -> Two
-        ensures { end_2 result rows.new cells.new ≡ idim_shift (callees left) i n k (machine rows.old cells.old self) }
+    ) -> Answer<(u32, u32)>
+        ensures { end result tables.new ≡ idim_shift (callees left) i n k (over tables.old self) }
     {
         let op = IOp::IShift(k);
         if n < k {
-            return match self.comparison(left, rows, cells, n, k, true) {
-                Got::Is(s, x) => {
-                    let refs = cite1(x);
-                    s.ifinish(rows, cells, i, op, i, codes::ISHIFT_DIM_LT, refs)
-                }
-                Got::Refused(s, e) => Two::Refused(s, e),
-            };
+            let (s, x) = self.comparison(left, tables, n, k, true)?;
+            return s.ifinish(tables, i, op, i, Rule::IShiftDimLt, cite([x]));
         }
-        match self.comparison(left, rows, cells, k, n, false) {
-            Got::Is(s, x) => {
-                let refs = cite1(x);
-                let up = succ(n);
-                s.imake(
-                    rows,
-                    cells,
-                    i,
-                    op,
-                    kinds::DIM,
-                    up,
-                    0,
-                    codes::ISHIFT_DIM_GE,
-                    refs,
-                )
-            }
-            Got::Refused(s, e) => Two::Refused(s, e),
-        }
+        let (s, x) = self.comparison(left, tables, k, n, false)?;
+        s.imake(
+            tables,
+            i,
+            op,
+            kinds::DIM,
+            succ(n),
+            0,
+            Rule::IShiftDimGe,
+            cite([x]),
+        )
     }
 
     // The dimension `n`, where `r` is put for `k`.
-    #[tactic(auto, unfolding(crate::specs::Intervals::idim_subst, crate::proofs::Steps::steps))]
+    #[tactic(auto, unfolding(crate::specs::Intervals::idim_subst, crate::proofs::Steps::steps, crate::proofs::Steps::stated))]
     pub fn idim_subst(
         self,
         left: u32,
-        rows: &mut [u32],
-        cells: &mut [u32],
+        tables: &mut Tables,
         i: u32,
         n: u32,
         k: u32,
         r: u32,
-    ) -> Two
-        ensures { end_2 result rows.new cells.new ≡ idim_subst (callees left) i n k r (machine rows.old cells.old self) }
+    ) -> Answer<(u32, u32)>
+        ensures { end result tables.new ≡ idim_subst (callees left) i n k r (over tables.old self) }
     {
         let op = IOp::ISubst(k, r);
         if n == k {
-            let refs = cite0();
-            return self.ifinish(rows, cells, i, op, r, codes::ISUBST_DIM_HIT, refs);
+            return self.ifinish(tables, i, op, r, Rule::ISubstDimHit, cite([]));
         }
         if n < k {
-            return match self.comparison(left, rows, cells, n, k, true) {
-                Got::Is(s, x) => {
-                    let refs = cite1(x);
-                    s.ifinish(rows, cells, i, op, i, codes::ISUBST_DIM_LT, refs)
-                }
-                Got::Refused(s, e) => Two::Refused(s, e),
-            };
+            let (s, x) = self.comparison(left, tables, n, k, true)?;
+            return s.ifinish(tables, i, op, i, Rule::ISubstDimLt, cite([x]));
         }
-        match self.comparison(left, rows, cells, k, n, true) {
-            Got::Is(s, x) => {
-                let refs = cite1(x);
-                s.imake(
-                    rows,
-                    cells,
-                    i,
-                    op,
-                    kinds::DIM,
-                    n - 1,
-                    0,
-                    codes::ISUBST_DIM_GT,
-                    refs,
-                )
-            }
-            Got::Refused(s, e) => Two::Refused(s, e),
-        }
+        let (s, x) = self.comparison(left, tables, k, n, true)?;
+        s.imake(
+            tables,
+            i,
+            op,
+            kinds::DIM,
+            n - 1,
+            0,
+            Rule::ISubstDimGt,
+            cite([x]),
+        )
     }
 
     // The dimension `n`.
     #[tactic(auto, unfolding(crate::specs::Intervals::idim, crate::proofs::Steps::steps))]
-    pub fn idim(
-        self,
-        left: u32,
-        rows: &mut [u32],
-        cells: &mut [u32],
-        i: u32,
-        n: u32,
-        op: IOp,
-    ) -> Two
-        ensures { end_2 result rows.new cells.new ≡ idim (callees left) i n op (machine rows.old cells.old self) }
+    pub fn idim(self, left: u32, tables: &mut Tables, i: u32, n: u32, op: IOp) -> Answer<(u32, u32)>
+        ensures { end result tables.new ≡ idim (callees left) i n op (over tables.old self) }
     {
         match op {
-            IOp::IShift(k) => self.idim_shift(left, rows, cells, i, n, k),
-            IOp::ISubst(k, r) => self.idim_subst(left, rows, cells, i, n, k, r),
+            IOp::IShift(k) => self.idim_shift(left, tables, i, n, k),
+            IOp::ISubst(k, r) => self.idim_subst(left, tables, i, n, k, r),
         }
     }
 
     // The interval with its dimensions shifted or substituted: the result, and the row.
     #[cycle(itransform)]
-    pub fn itransform(self, left: u32, rows: &mut [u32], cells: &mut [u32], i: u32, op: IOp) -> Two
-        ensures { end_2 result rows.new cells.new ≡ (callees left).itransform i op (machine rows.old cells.old self) }
+    pub fn itransform(self, left: u32, tables: &mut Tables, i: u32, op: IOp) -> Answer<(u32, u32)>
+        ensures { end result tables.new ≡ (callees left).itransform i op (over tables.old self) }
     {
         if left == 0 {
-            return Two::Refused(self, refusals::NESTING);
+            return Err(self.refused(refusals::NESTING));
         }
         let down = left - 1;
         let s0 = self.deeper(down);
-        let cell = read(cells, i);
-        let kind = cell.kind;
-        match kind {
+        let cell = tables.read(i);
+        match cell.kind {
             kinds::I0 => {
-                let rule = by_iop(op, codes::ISHIFT_0, codes::ISUBST_0);
-                let refs = cite0();
-                return s0.ifinish(rows, cells, i, op, i, rule, refs);
+                let rule = by_iop(op, Rule::IShift0, Rule::ISubst0);
+                s0.ifinish(tables, i, op, i, rule, cite([]))
             }
             kinds::I1 => {
-                let rule = by_iop(op, codes::ISHIFT_1, codes::ISUBST_1);
-                let refs = cite0();
-                return s0.ifinish(rows, cells, i, op, i, rule, refs);
+                let rule = by_iop(op, Rule::IShift1, Rule::ISubst1);
+                s0.ifinish(tables, i, op, i, rule, cite([]))
             }
-            kinds::DIM => {
-                return s0.idim(down, rows, cells, i, cell.a, op);
-            }
-            kinds::NEG => {
-                return s0.ineg(down, rows, cells, i, op, cell.a);
-            }
+            kinds::DIM => s0.idim(down, tables, i, cell.a, op),
+            kinds::NEG => s0.ineg(down, tables, i, op, cell.a),
             kinds::MEET => {
-                let rule = by_iop(op, codes::ISHIFT_MEET, codes::ISUBST_MEET);
-                return s0.ipair(down, rows, cells, i, op, kinds::MEET, cell.a, cell.b, rule);
+                let rule = by_iop(op, Rule::IShiftMeet, Rule::ISubstMeet);
+                s0.ipair(down, tables, i, op, kinds::MEET, cell.a, cell.b, rule)
             }
-            _ => {}
+            _ => {
+                let rule = by_iop(op, Rule::IShiftJoin, Rule::ISubstJoin);
+                s0.ipair(down, tables, i, op, kinds::JOIN, cell.a, cell.b, rule)
+            }
         }
-        let rule = by_iop(op, codes::ISHIFT_JOIN, codes::ISUBST_JOIN);
-        s0.ipair(down, rows, cells, i, op, kinds::JOIN, cell.a, cell.b, rule)
     }
 
     // A negation.
     #[cycle(itransform)]
-    pub fn ineg(
-        self,
-        left: u32,
-        rows: &mut [u32],
-        cells: &mut [u32],
-        i: u32,
-        op: IOp,
-        a: u32,
-    ) -> Two
-        ensures { end_2 result rows.new cells.new ≡ ineg (callees left) i op a (machine rows.old cells.old self) }
+    pub fn ineg(self, left: u32, tables: &mut Tables, i: u32, op: IOp, a: u32) -> Answer<(u32, u32)>
+        ensures { end result tables.new ≡ ineg (callees left) i op a (over tables.old self) }
     {
-        let q1 = self.itransform(left, rows, cells, a, op);
-        let Two::Pair(s1, a1, x) = q1 else {
-            return q1;
-        };
-        let rule = by_iop(op, codes::ISHIFT_NEG, codes::ISUBST_NEG);
-        let refs = cite1(x);
-        s1.imake(rows, cells, i, op, kinds::NEG, a1, 0, rule, refs)
+        let (s1, (a1, x)) = self.itransform(left, tables, a, op)?;
+        let rule = by_iop(op, Rule::IShiftNeg, Rule::ISubstNeg);
+        s1.imake(tables, i, op, kinds::NEG, a1, 0, rule, cite([x]))
     }
 
     // A meet or a join.
@@ -434,26 +266,18 @@ impl State {
     pub fn ipair(
         self,
         left: u32,
-        rows: &mut [u32],
-        cells: &mut [u32],
+        tables: &mut Tables,
         i: u32,
         op: IOp,
         kind: u32,
         a: u32,
         b: u32,
-        rule: u32,
-    ) -> Two
-        ensures { end_2 result rows.new cells.new ≡ ipair (callees left) i op kind a b rule (machine rows.old cells.old self) }
+        rule: Rule,
+    ) -> Answer<(u32, u32)>
+        ensures { end result tables.new ≡ ipair (callees left) i op kind a b (rule_number rule) (over tables.old self) }
     {
-        let q1 = self.itransform(left, rows, cells, a, op);
-        let Two::Pair(s1, a1, x) = q1 else {
-            return q1;
-        };
-        let q2 = s1.itransform(left, rows, cells, b, op);
-        let Two::Pair(s2, b1, y) = q2 else {
-            return q2;
-        };
-        let refs = cite2(x, y);
-        s2.imake(rows, cells, i, op, kind, a1, b1, rule, refs)
+        let (s1, (a1, x)) = self.itransform(left, tables, a, op)?;
+        let (s2, (b1, y)) = s1.itransform(left, tables, b, op)?;
+        s2.imake(tables, i, op, kind, a1, b1, rule, cite([x, y]))
     }
 }

@@ -1,11 +1,14 @@
 // Comparisons and maxima.
 ghost use Rattle.std.specs.Prelude.{◌≡◌};
-ghost use Rattle.producer.specs.Machine.{machine, end};
+ghost use Rattle.producer.specs.Answers.{end};
+ghost use Rattle.producer.specs.Judgments.{rule_number};
+ghost use Rattle.producer.specs.Machine.{over};
 ghost use Rattle.producer.specs.Calls.{callees};
 
-use crate::answers::Got;
-use crate::rows::{cite0, cite1};
-use crate::{State, codes};
+use crate::answers::Answer;
+use crate::codes::{Judgment, Rule};
+use crate::rows::cite;
+use crate::{State, Tables};
 use ast::refusals;
 use ast::words::greater;
 
@@ -14,156 +17,59 @@ impl State {
     pub fn comparison(
         self,
         left: u32,
-        rows: &mut [u32],
-        cells: &[u32],
+        tables: &mut Tables,
         m: u32,
         n: u32,
         strict: bool,
-    ) -> Got
-        ensures { end result rows.new cells.now ≡ (callees left).comparison m n strict (machine rows.old cells.now self) }
+    ) -> Answer<u32>
+        ensures { end result tables.new ≡ (callees left).comparison m n strict (over tables.old self) }
     {
         if left == 0 {
-            return Got::Refused(self, refusals::NESTING);
+            return Err(self.refused(refusals::NESTING));
         }
         let down = left - 1;
         let s0 = self.deeper(down);
         if strict {
-            if m < n {
-                if m == 0 {
-                    let refs = cite0();
-                    return s0.emit(
-                        rows,
-                        cells,
-                        codes::LT_Z,
-                        refs,
-                        codes::IS_LT,
-                        2,
-                        m,
-                        n,
-                        0,
-                        0,
-                        0,
-                    );
-                }
-                let q = s0.comparison(down, rows, cells, m - 1, n - 1, true);
-                let Got::Is(s1, x) = q else {
-                    return q;
-                };
-                let refs = cite1(x);
-                return s1.emit(
-                    rows,
-                    cells,
-                    codes::LT_S,
-                    refs,
-                    codes::IS_LT,
-                    2,
-                    m,
-                    n,
-                    0,
-                    0,
-                    0,
-                );
+            if n <= m {
+                return Err(s0.refused(refusals::DIMENSION));
             }
-            return Got::Refused(s0, refusals::DIMENSION);
-        }
-        if m <= n {
             if m == 0 {
-                let refs = cite0();
-                return s0.emit(
-                    rows,
-                    cells,
-                    codes::LE_Z,
-                    refs,
-                    codes::IS_LE,
-                    2,
-                    m,
-                    n,
-                    0,
-                    0,
-                    0,
-                );
+                return s0.emit(tables, Rule::LtZ, cite([]), Judgment::Lt(m, n));
             }
-            let q = s0.comparison(down, rows, cells, m - 1, n - 1, false);
-            let Got::Is(s1, x) = q else {
-                return q;
-            };
-            let refs = cite1(x);
-            return s1.emit(
-                rows,
-                cells,
-                codes::LE_S,
-                refs,
-                codes::IS_LE,
-                2,
-                m,
-                n,
-                0,
-                0,
-                0,
-            );
+            let (s1, x) = s0.comparison(down, tables, m - 1, n - 1, true)?;
+            return s1.emit(tables, Rule::LtS, cite([x]), Judgment::Lt(m, n));
         }
-        Got::Refused(s0, refusals::DIMENSION)
+        if n < m {
+            return Err(s0.refused(refusals::DIMENSION));
+        }
+        if m == 0 {
+            return s0.emit(tables, Rule::LeZ, cite([]), Judgment::Le(m, n));
+        }
+        let (s1, x) = s0.comparison(down, tables, m - 1, n - 1, false)?;
+        s1.emit(tables, Rule::LeS, cite([x]), Judgment::Le(m, n))
     }
 
     // The row of the greater of two levels.
-    pub fn max(self, left: u32, rows: &mut [u32], cells: &[u32], m: u32, n: u32) -> Got
-        ensures { end result rows.new cells.now ≡ (callees left).max m n (machine rows.old cells.now self) }
+    pub fn max(self, left: u32, tables: &mut Tables, m: u32, n: u32) -> Answer<u32>
+        ensures { end result tables.new ≡ (callees left).max m n (over tables.old self) }
     {
         if left == 0 {
-            return Got::Refused(self, refusals::NESTING);
+            return Err(self.refused(refusals::NESTING));
         }
         let down = left - 1;
         let s0 = self.deeper(down);
         if m == 0 {
-            let refs = cite0();
-            return s0.emit(
-                rows,
-                cells,
-                codes::MAX_Z,
-                refs,
-                codes::IS_MAX,
-                3,
-                m,
-                n,
-                n,
-                0,
-                0,
-            );
+            return s0.emit(tables, Rule::MaxZ, cite([]), Judgment::Max(m, n, n));
         }
         if n == 0 {
-            let refs = cite0();
-            return s0.emit(
-                rows,
-                cells,
-                codes::MAX_SZ,
-                refs,
-                codes::IS_MAX,
-                3,
-                m,
-                n,
-                m,
-                0,
-                0,
-            );
+            return s0.emit(tables, Rule::MaxSz, cite([]), Judgment::Max(m, n, m));
         }
-        let q = s0.max(down, rows, cells, m - 1, n - 1);
-        let Got::Is(s1, x) = q else {
-            return q;
-        };
-        let refs = cite1(x);
-        let top = greater(m, n);
+        let (s1, x) = s0.max(down, tables, m - 1, n - 1)?;
         s1.emit(
-            rows,
-            cells,
-            codes::MAX_SS,
-            refs,
-            codes::IS_MAX,
-            3,
-            m,
-            n,
-            top,
-            0,
-            0,
+            tables,
+            Rule::MaxSs,
+            cite([x]),
+            Judgment::Max(m, n, greater(m, n)),
         )
     }
 }

@@ -3,11 +3,14 @@
 ghost use Rattle.std.specs.Prelude.{◌≡◌, [], ◌∷◌, ◌+◌, ◌*◌};
 ghost use Rattle.std.proofs.lemmas.List.Edits.{sets};
 ghost use Rattle.ast.specs.Index.{onward};
-ghost use Rattle.producer.specs.Machine.{machine, end, row_slot, quarter, row_hash, find_row, row_end, link_row, no_refs, cons_refs, join_refs, refs_1, refs_2, refs_3, refs_4, refs_5, refs_6, refs_7, refs_10, row_block, same_row, emit, emit_has, emit_eq};
+ghost use Rattle.producer.specs.Answers.{end};
+ghost use Rattle.producer.specs.Judgments.{emit_as, rule_number};
+ghost use Rattle.producer.specs.Machine.{over, row_slot, quarter, row_hash, find_row, row_end, link_row, cons_refs, join_refs, refs_of, row_block, same_row, emit_has, emit_eq};
 
-use crate::answers::Got;
-use crate::{State, codes};
-use ast::cells::{Found, quote};
+use crate::answers::Answer;
+use crate::codes::{Judgment, Rule, Words};
+use crate::{State, Tables};
+use ast::cells::Found;
 use ast::index::{hash, kept, later, mix};
 use ast::refusals;
 use ast::words::{put, succ, word};
@@ -26,26 +29,6 @@ pub struct Refs {
     pub r7: u32,
     pub r8: u32,
     pub r9: u32,
-}
-
-// No row cited.
-#[tactic(auto, unfolding(crate::specs::Machine::no_refs))]
-pub fn cite0() -> Refs
-    ensures { result ≡ no_refs }
-{
-    Refs {
-        count: 0,
-        r0: 0,
-        r1: 0,
-        r2: 0,
-        r3: 0,
-        r4: 0,
-        r5: 0,
-        r6: 0,
-        r7: 0,
-        r8: 0,
-        r9: 0,
-    }
 }
 
 // A row cited before others.
@@ -69,89 +52,28 @@ pub fn cite_before(x: u32, refs: Refs) -> Refs
     }
 }
 
-// One row cited.
-#[tactic(auto, unfolding(crate::specs::Machine::refs_1))]
-pub fn cite1(x0: u32) -> Refs
-    ensures { result ≡ refs_1 x0 }
+// These rows cited.
+#[tactic(auto, unfolding(crate::specs::Machine::refs_of, crate::specs::Machine::no_refs))]
+pub fn cite<const N: usize>(rows: [u32; N]) -> Refs
+    ensures { result ≡ refs_of rows.entry }
 {
-    let rest = cite0();
-    cite_before(x0, rest)
-}
-
-// Two rows cited.
-#[tactic(auto, unfolding(crate::specs::Machine::refs_2))]
-pub fn cite2(x0: u32, x1: u32) -> Refs
-    ensures { result ≡ refs_2 x0 x1 }
-{
-    let rest = cite1(x1);
-    cite_before(x0, rest)
-}
-
-// Three rows cited.
-#[tactic(auto, unfolding(crate::specs::Machine::refs_3))]
-pub fn cite3(x0: u32, x1: u32, x2: u32) -> Refs
-    ensures { result ≡ refs_3 x0 x1 x2 }
-{
-    let rest = cite2(x1, x2);
-    cite_before(x0, rest)
-}
-
-// Four rows cited.
-#[tactic(auto, unfolding(crate::specs::Machine::refs_4))]
-pub fn cite4(x0: u32, x1: u32, x2: u32, x3: u32) -> Refs
-    ensures { result ≡ refs_4 x0 x1 x2 x3 }
-{
-    let rest = cite3(x1, x2, x3);
-    cite_before(x0, rest)
-}
-
-// Five rows cited.
-#[tactic(auto, unfolding(crate::specs::Machine::refs_5))]
-pub fn cite5(x0: u32, x1: u32, x2: u32, x3: u32, x4: u32) -> Refs
-    ensures { result ≡ refs_5 x0 x1 x2 x3 x4 }
-{
-    let rest = cite4(x1, x2, x3, x4);
-    cite_before(x0, rest)
-}
-
-// Six rows cited.
-#[tactic(auto, unfolding(crate::specs::Machine::refs_6))]
-pub fn cite6(x0: u32, x1: u32, x2: u32, x3: u32, x4: u32, x5: u32) -> Refs
-    ensures { result ≡ refs_6 x0 x1 x2 x3 x4 x5 }
-{
-    let rest = cite5(x1, x2, x3, x4, x5);
-    cite_before(x0, rest)
-}
-
-// Seven rows cited.
-#[tactic(auto, unfolding(crate::specs::Machine::refs_7))]
-pub fn cite7(x0: u32, x1: u32, x2: u32, x3: u32, x4: u32, x5: u32, x6: u32) -> Refs
-    ensures { result ≡ refs_7 x0 x1 x2 x3 x4 x5 x6 }
-{
-    let rest = cite6(x1, x2, x3, x4, x5, x6);
-    cite_before(x0, rest)
-}
-
-// Ten rows cited.
-#[tactic(auto, unfolding(crate::specs::Machine::refs_10))]
-pub fn cite10(
-    x0: u32,
-    x1: u32,
-    x2: u32,
-    x3: u32,
-    x4: u32,
-    x5: u32,
-    x6: u32,
-    x7: u32,
-    x8: u32,
-    x9: u32,
-) -> Refs
-    ensures { result ≡ refs_10 x0 x1 x2 x3 x4 x5 x6 x7 x8 x9 }
-{
-    let rest = cite7(x3, x4, x5, x6, x7, x8, x9);
-    let from2 = cite_before(x2, rest);
-    let from1 = cite_before(x1, from2);
-    cite_before(x0, from1)
+    let mut refs = Refs {
+        count: 0,
+        r0: 0,
+        r1: 0,
+        r2: 0,
+        r3: 0,
+        r4: 0,
+        r5: 0,
+        r6: 0,
+        r7: 0,
+        r8: 0,
+        r9: 0,
+    };
+    for i in (0..N).rev() {
+        refs = cite_before(rows[i], refs);
+    }
+    refs
 }
 
 // The first row of the one, where it has any, cited before the other.
@@ -320,103 +242,96 @@ pub fn put_row(
 
 impl State {
     // The row with the judgment: the last that has it, or a new one; refuses (18) where none is left.
-    #[tactic(auto, unfolding(crate::specs::Machine::emit, crate::specs::Machine::known_row, crate::specs::Machine::known_or, crate::specs::Machine::new_row, crate::specs::Machine::add_row, crate::proofs::Steps::steps))]
+    #[tactic(auto, unfolding(crate::specs::Machine::emit, crate::specs::Machine::known_row, crate::specs::Machine::known_or, crate::specs::Machine::new_row, crate::specs::Machine::add_row, crate::specs::Judgments::emit_as, crate::proofs::Steps::steps, crate::proofs::Steps::stated))]
     pub fn emit(
         mut self,
-        rows: &mut [u32],
-        cells: &[u32],
-        rule: u32,
+        tables: &mut Tables,
+        rule: Rule,
         refs: Refs,
-        kind: u32,
-        count: u32,
-        a: u32,
-        b: u32,
-        c: u32,
-        d: u32,
-        e: u32,
-    ) -> Got
-        ensures { end result rows.new cells.now ≡ emit rule refs kind count a b c d e (machine rows.old cells.now self) }
+        judgment: Judgment,
+    ) -> Answer<u32>
+        ensures { end result tables.new ≡ emit_as (rule_number rule) refs judgment (over tables.old self) }
     {
         let n = self.rows;
-        match find_row(rows, n, kind, a, b, c, d, e) {
-            Found::At(i) => Got::Is(self, i),
+        let Words {
+            kind,
+            count,
+            a,
+            b,
+            c,
+            d,
+            e,
+        } = judgment.words();
+        match tables.find_row(n, kind, a, b, c, d, e) {
+            Found::At(i) => Ok((self, i)),
             Found::Nothing => {
                 if n < self.rowroom {
-                    link_row(rows, n, kind, a, b, c, d, e);
-                    put_row(rows, n, rule, refs, kind, count, a, b, c, d, e);
+                    link_row(tables.rows, n, kind, a, b, c, d, e);
+                    put_row(
+                        tables.rows,
+                        n,
+                        rule.number(),
+                        refs,
+                        kind,
+                        count,
+                        a,
+                        b,
+                        c,
+                        d,
+                        e,
+                    );
                     self.rows = n + 1;
-                    return Got::Is(self, n);
+                    return Ok((self, n));
                 }
-                Got::Refused(self, refusals::ROWS)
+                Err(self.refused(refusals::ROWS))
             }
         }
     }
 
     // The row of a typing: by quotes.
-    #[tactic(auto, unfolding(crate::specs::Machine::emit_has, crate::proofs::Steps::steps))]
+    #[tactic(auto, unfolding(crate::specs::Machine::emit_has, crate::proofs::Steps::steps, crate::proofs::Steps::stated))]
     pub fn emit_has(
         self,
-        rows: &mut [u32],
-        cells: &[u32],
-        rule: u32,
+        tables: &mut Tables,
+        rule: Rule,
         refs: Refs,
         d: u32,
         g: u32,
         t: u32,
         ty: u32,
-    ) -> Got
-        ensures { end result rows.new cells.now ≡ emit_has rule refs d g t ty (machine rows.old cells.now self) }
+    ) -> Answer<u32>
+        ensures { end result tables.new ≡ emit_has (rule_number rule) refs d g t ty (over tables.old self) }
     {
-        let context = quote(cells, g);
-        let term = quote(cells, t);
-        let kind = quote(cells, ty);
-        self.emit(
-            rows,
-            cells,
-            rule,
-            refs,
-            codes::IS_HAS,
-            4,
-            d,
-            context,
-            term,
-            kind,
-            0,
-        )
+        let context = tables.quote(g);
+        let term = tables.quote(t);
+        let kind = tables.quote(ty);
+        self.emit(tables, rule, refs, Judgment::Has(d, context, term, kind))
     }
 
     // The row of an equation: by quotes.
-    #[tactic(auto, unfolding(crate::specs::Machine::emit_eq, crate::proofs::Steps::steps))]
+    #[tactic(auto, unfolding(crate::specs::Machine::emit_eq, crate::proofs::Steps::steps, crate::proofs::Steps::stated))]
     pub fn emit_eq(
         self,
-        rows: &mut [u32],
-        cells: &[u32],
-        rule: u32,
+        tables: &mut Tables,
+        rule: Rule,
         refs: Refs,
         d: u32,
         g: u32,
         a: u32,
         b: u32,
         ty: u32,
-    ) -> Got
-        ensures { end result rows.new cells.now ≡ emit_eq rule refs d g a b ty (machine rows.old cells.now self) }
+    ) -> Answer<u32>
+        ensures { end result tables.new ≡ emit_eq (rule_number rule) refs d g a b ty (over tables.old self) }
     {
-        let context = quote(cells, g);
-        let left = quote(cells, a);
-        let right = quote(cells, b);
-        let kind = quote(cells, ty);
+        let context = tables.quote(g);
+        let left = tables.quote(a);
+        let right = tables.quote(b);
+        let kind = tables.quote(ty);
         self.emit(
-            rows,
-            cells,
+            tables,
             rule,
             refs,
-            codes::IS_EQ,
-            5,
-            d,
-            context,
-            left,
-            right,
-            kind,
+            Judgment::Eq(d, context, left, right, kind),
         )
     }
 }

@@ -1,40 +1,33 @@
 // Cells that are made, and inferences that are remembered.
 ghost use Rattle.std.specs.Prelude.{◌≡◌};
-ghost use Rattle.producer.specs.Machine.{machine, end, end_0, intern, remember};
+ghost use Rattle.producer.specs.Machine.{over, intern, remember};
+ghost use Rattle.producer.specs.Answers.{end, end_state};
 ghost use Rattle.producer.specs.Callees.{prepared};
 ghost use Rattle.producer.specs.Calls.{callees};
 
-use crate::State;
-use crate::answers::{Done, Got};
-use ast::cells::{Found, find_node, link_cell, lowest, put_again, put_cell};
+use crate::answers::{Answer, Refused};
+use crate::{State, Tables};
+use ast::cells::{Found, link_cell, put_again, put_cell};
 use ast::{kinds, refusals};
 
 impl State {
     // The cell with the kind and the parts: the one that has them, or a new one; refuses (20) where none is left.
     #[tactic(auto, unfolding(crate::specs::Machine::intern, crate::specs::Machine::known_or, crate::specs::Machine::new_cell, crate::specs::Machine::add_cell, crate::proofs::Steps::steps))]
-    pub fn intern(
-        mut self,
-        rows: &[u32],
-        cells: &mut [u32],
-        kind: u32,
-        a: u32,
-        b: u32,
-        c: u32,
-    ) -> Got
-        ensures { end result rows.now cells.new ≡ intern kind a b c (machine rows.now cells.old self) }
+    pub fn intern(mut self, tables: &mut Tables, kind: u32, a: u32, b: u32, c: u32) -> Answer<u32>
+        ensures { end result tables.new ≡ intern kind a b c (over tables.old self) }
     {
         let n = self.cells;
-        match find_node(cells, n, kind, a, b, c) {
-            Found::At(i) => Got::Is(self, i),
+        match tables.find_node(n, kind, a, b, c) {
+            Found::At(i) => Ok((self, i)),
             Found::Nothing => {
                 if n < self.cellroom {
-                    let quote = lowest(cells, n, kind, a, b, c);
-                    link_cell(cells, n, kind, a, b, c);
-                    put_cell(cells, n, kind, a, b, c, quote, 0, 0, 0);
+                    let quote = tables.lowest(n, kind, a, b, c);
+                    link_cell(tables.cells, n, kind, a, b, c);
+                    put_cell(tables.cells, n, kind, a, b, c, quote, 0, 0, 0);
                     self.cells = n + 1;
-                    return Got::Is(self, n);
+                    return Ok((self, n));
                 }
-                Got::Refused(self, refusals::CELLS)
+                Err(self.refused(refusals::CELLS))
             }
         }
     }
@@ -43,50 +36,39 @@ impl State {
     #[tactic(auto, unfolding(crate::specs::Machine::remember, crate::specs::Machine::remembered_or, crate::specs::Machine::new_memory, crate::specs::Machine::add_cell, crate::specs::Machine::replace, crate::proofs::Steps::steps))]
     pub fn remember(
         mut self,
-        rows: &[u32],
-        cells: &mut [u32],
+        tables: &mut Tables,
         d: u32,
         g: u32,
         t: u32,
         ty: u32,
         row: u32,
-    ) -> Done
-        ensures { end_0 result rows.now cells.new ≡ remember d g t ty row (machine rows.now cells.old self) }
+    ) -> Result<State, Refused>
+        ensures { end_state result tables.new ≡ remember d g t ty row (over tables.old self) }
     {
         let n = self.cells;
-        match find_node(cells, n, kinds::INFERENCE, d, g, t) {
+        match tables.find_node(n, kinds::INFERENCE, d, g, t) {
             Found::At(i) => {
-                put_again(cells, i, ty, row);
-                Done::Ready(self)
+                put_again(tables.cells, i, ty, row);
+                Ok(self)
             }
             Found::Nothing => {
                 if n < self.cellroom {
-                    link_cell(cells, n, kinds::INFERENCE, d, g, t);
-                    put_cell(cells, n, kinds::INFERENCE, d, g, t, ty, row, 0, 0);
+                    link_cell(tables.cells, n, kinds::INFERENCE, d, g, t);
+                    put_cell(tables.cells, n, kinds::INFERENCE, d, g, t, ty, row, 0, 0);
                     self.cells = n + 1;
-                    return Done::Ready(self);
+                    return Ok(self);
                 }
-                Done::Refused(self, refusals::CELLS)
+                Err(self.refused(refusals::CELLS))
             }
         }
     }
 
     // A cell that is an argument of a call about to be made: 19 precedes 20.
     #[tactic(auto, unfolding(crate::specs::Callees::prepared, crate::proofs::Steps::steps))]
-    pub fn prepare(
-        self,
-        left: u32,
-        rows: &[u32],
-        cells: &mut [u32],
-        kind: u32,
-        a: u32,
-        b: u32,
-    ) -> Got
-        ensures { end result rows.now cells.new ≡ prepared (callees left) (intern kind a b 0) (machine rows.now cells.old self) }
+    pub fn prepare(self, left: u32, tables: &mut Tables, kind: u32, a: u32, b: u32) -> Answer<u32>
+        ensures { end result tables.new ≡ prepared (callees left) (intern kind a b 0) (over tables.old self) }
     {
-        match self.ready(left, rows, cells) {
-            Done::Ready(s) => s.intern(rows, cells, kind, a, b, 0),
-            Done::Refused(s, e) => Got::Refused(s, e),
-        }
+        let s = self.ready(left, tables)?;
+        s.intern(tables, kind, a, b, 0)
     }
 }

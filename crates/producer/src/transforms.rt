@@ -1,14 +1,17 @@
 // Transforms of terms: shifts and substitutions, of variables and of dimensions. Each call has less nesting left.
 ghost use Rattle.std.specs.Prelude.{◌≡◌};
-ghost use Rattle.producer.specs.Machine.{machine, end, end_2, end_cited, end_inner, intern, make_var};
+ghost use Rattle.producer.specs.Answers.{end};
+ghost use Rattle.producer.specs.Judgments.{rule_number};
+ghost use Rattle.producer.specs.Machine.{over, intern, make_var};
 ghost use Rattle.producer.specs.Transforms.{by_op, rule_of, temit, finished, finish, tvar_shift, tvar_subst, tvar, tinterval, transform_binder, transform_lam, transform_app, transform_path, transform_plam, transform_papp, transform_pair, transform_projection, compound, under_subst};
 ghost use Rattle.producer.specs.Calls.{callees};
 
-use crate::answers::{Cited, Got, Two};
+use crate::answers::Answer;
+use crate::codes::{Judgment, Rule};
 use crate::intervals::IOp;
-use crate::rows::{Refs, cite_before, cite_first, cite0, cite1, cite2, cite3};
-use crate::{State, codes};
-use ast::cells::{Cell, quote, read};
+use crate::rows::{Refs, cite, cite_before, cite_first};
+use crate::{State, Tables};
+use ast::cells::Cell;
 use ast::words::succ;
 use ast::{kinds, refusals};
 
@@ -21,17 +24,10 @@ pub enum Op {
     DSubst(u32, u32),
 }
 
-// An operation and the rows to cite for it, or a refusal.
-#[derive(Clone, Copy)]
-pub enum Inner {
-    Within(State, Op, Refs),
-    Refused(State, u32),
-}
-
 // A rule for each operation.
 #[tactic(auto, unfolding(crate::specs::Transforms::by_op))]
-pub fn by_op(op: Op, a: u32, b: u32, c: u32, d: u32) -> u32
-    ensures { result ≡ by_op op a b c d }
+pub fn by_op(op: Op, a: Rule, b: Rule, c: Rule, d: Rule) -> Rule
+    ensures { rule_number result ≡ by_op op (rule_number a) (rule_number b) (rule_number c) (rule_number d) }
 {
     match op {
         Op::Shift(_) => a,
@@ -43,133 +39,126 @@ pub fn by_op(op: Op, a: u32, b: u32, c: u32, d: u32) -> u32
 
 // The rule of an operation at a term of a kind. A variable has several, by how it compares with `k`: it is not asked for here, nor is
 // what is no term.
-#[tactic(auto, unfolding(crate::specs::Transforms::rule_of))]
-pub fn rule_of(op: Op, kind: u32) -> u32
-    ensures { result ≡ rule_of op kind }
+#[tactic(auto, unfolding(crate::specs::Transforms::rule_of, crate::specs::Judgments::rule_number))]
+pub fn rule_of(op: Op, kind: u32) -> Rule
+    ensures { rule_number result ≡ rule_of op kind }
 {
     match kind {
         // written by tools/written.py: rules of a kind
-        kinds::UNIVERSE => by_op(
-            op,
-            codes::SHIFT_U,
-            codes::SUBST_U,
-            codes::DSHIFT_U,
-            codes::DSUBST_U,
-        ),
+        kinds::UNIVERSE => by_op(op, Rule::ShiftU, Rule::SubstU, Rule::DShiftU, Rule::DSubstU),
         kinds::NAT => by_op(
             op,
-            codes::SHIFT_NAT,
-            codes::SUBST_NAT,
-            codes::DSHIFT_NAT,
-            codes::DSUBST_NAT,
+            Rule::ShiftNat,
+            Rule::SubstNat,
+            Rule::DShiftNat,
+            Rule::DSubstNat,
         ),
         kinds::ZERO => by_op(
             op,
-            codes::SHIFT_ZERO,
-            codes::SUBST_ZERO,
-            codes::DSHIFT_ZERO,
-            codes::DSUBST_ZERO,
+            Rule::ShiftZero,
+            Rule::SubstZero,
+            Rule::DShiftZero,
+            Rule::DSubstZero,
         ),
         kinds::PI => by_op(
             op,
-            codes::SHIFT_PI,
-            codes::SUBST_PI,
-            codes::DSHIFT_PI,
-            codes::DSUBST_PI,
+            Rule::ShiftPi,
+            Rule::SubstPi,
+            Rule::DShiftPi,
+            Rule::DSubstPi,
         ),
         kinds::LAM => by_op(
             op,
-            codes::SHIFT_LAM,
-            codes::SUBST_LAM,
-            codes::DSHIFT_LAM,
-            codes::DSUBST_LAM,
+            Rule::ShiftLam,
+            Rule::SubstLam,
+            Rule::DShiftLam,
+            Rule::DSubstLam,
         ),
         kinds::APP => by_op(
             op,
-            codes::SHIFT_APP,
-            codes::SUBST_APP,
-            codes::DSHIFT_APP,
-            codes::DSUBST_APP,
+            Rule::ShiftApp,
+            Rule::SubstApp,
+            Rule::DShiftApp,
+            Rule::DSubstApp,
         ),
         kinds::PATH => by_op(
             op,
-            codes::SHIFT_PATH,
-            codes::SUBST_PATH,
-            codes::DSHIFT_PATH,
-            codes::DSUBST_PATH,
+            Rule::ShiftPath,
+            Rule::SubstPath,
+            Rule::DShiftPath,
+            Rule::DSubstPath,
         ),
         kinds::PLAM => by_op(
             op,
-            codes::SHIFT_PLAM,
-            codes::SUBST_PLAM,
-            codes::DSHIFT_PLAM,
-            codes::DSUBST_PLAM,
+            Rule::ShiftPlam,
+            Rule::SubstPlam,
+            Rule::DShiftPlam,
+            Rule::DSubstPlam,
         ),
         kinds::PAPP => by_op(
             op,
-            codes::SHIFT_PAPP,
-            codes::SUBST_PAPP,
-            codes::DSHIFT_PAPP,
-            codes::DSUBST_PAPP,
+            Rule::ShiftPapp,
+            Rule::SubstPapp,
+            Rule::DShiftPapp,
+            Rule::DSubstPapp,
         ),
         kinds::SIGMA => by_op(
             op,
-            codes::SHIFT_SIGMA,
-            codes::SUBST_SIGMA,
-            codes::DSHIFT_SIGMA,
-            codes::DSUBST_SIGMA,
+            Rule::ShiftSigma,
+            Rule::SubstSigma,
+            Rule::DShiftSigma,
+            Rule::DSubstSigma,
         ),
         kinds::PAIR => by_op(
             op,
-            codes::SHIFT_PAIR,
-            codes::SUBST_PAIR,
-            codes::DSHIFT_PAIR,
-            codes::DSUBST_PAIR,
+            Rule::ShiftPair,
+            Rule::SubstPair,
+            Rule::DShiftPair,
+            Rule::DSubstPair,
         ),
         kinds::FST => by_op(
             op,
-            codes::SHIFT_FST,
-            codes::SUBST_FST,
-            codes::DSHIFT_FST,
-            codes::DSUBST_FST,
+            Rule::ShiftFst,
+            Rule::SubstFst,
+            Rule::DShiftFst,
+            Rule::DSubstFst,
         ),
         kinds::SND => by_op(
             op,
-            codes::SHIFT_SND,
-            codes::SUBST_SND,
-            codes::DSHIFT_SND,
-            codes::DSUBST_SND,
+            Rule::ShiftSnd,
+            Rule::SubstSnd,
+            Rule::DShiftSnd,
+            Rule::DSubstSnd,
         ),
         // end of rules of a kind
-        _ => 0,
+        _ => Rule::CtxNil,
     }
 }
 
 impl State {
     // The row of a transform, from the quote `p` to the quote `q`.
-    #[tactic(auto, unfolding(crate::specs::Transforms::temit, crate::proofs::Steps::steps))]
+    #[tactic(auto, unfolding(crate::specs::Transforms::temit, crate::proofs::Steps::steps, crate::proofs::Steps::stated))]
     pub fn temit(
         self,
-        rows: &mut [u32],
-        cells: &[u32],
+        tables: &mut Tables,
         op: Op,
-        rule: u32,
+        rule: Rule,
         refs: Refs,
         p: u32,
         q: u32,
-    ) -> Got
-        ensures { end result rows.new cells.now ≡ temit op rule refs p q (machine rows.old cells.now self) }
+    ) -> Answer<u32>
+        ensures { end result tables.new ≡ temit op (rule_number rule) refs p q (over tables.old self) }
     {
         match op {
-            Op::Shift(k) => self.emit(rows, cells, rule, refs, codes::IS_SHIFT, 3, p, k, q, 0, 0),
+            Op::Shift(k) => self.emit(tables, rule, refs, Judgment::Shift(p, k, q)),
             Op::Subst(k, r) => {
-                let s = quote(cells, r);
-                self.emit(rows, cells, rule, refs, codes::IS_SUBST, 4, p, k, s, q, 0)
+                let s = tables.quote(r);
+                self.emit(tables, rule, refs, Judgment::Subst(p, k, s, q))
             }
-            Op::DShift(k) => self.emit(rows, cells, rule, refs, codes::IS_DSHIFT, 3, p, k, q, 0, 0),
+            Op::DShift(k) => self.emit(tables, rule, refs, Judgment::DShift(p, k, q)),
             Op::DSubst(k, r) => {
-                let s = quote(cells, r);
-                self.emit(rows, cells, rule, refs, codes::IS_DSUBST, 4, p, k, s, q, 0)
+                let s = tables.quote(r);
+                self.emit(tables, rule, refs, Judgment::DSubst(p, k, s, q))
             }
         }
     }
@@ -178,30 +167,26 @@ impl State {
     #[tactic(auto, unfolding(crate::specs::Transforms::finished, crate::proofs::Steps::steps))]
     pub fn finish(
         self,
-        rows: &mut [u32],
-        cells: &[u32],
+        tables: &mut Tables,
         i: u32,
         op: Op,
         out: u32,
-        rule: u32,
+        rule: Rule,
         refs: Refs,
-    ) -> Two
-        ensures { end_2 result rows.new cells.now ≡ finished i op out rule refs (machine rows.old cells.now self) }
+    ) -> Answer<(u32, u32)>
+        ensures { end result tables.new ≡ finished i op out (rule_number rule) refs (over tables.old self) }
     {
-        let p = quote(cells, i);
-        let q = quote(cells, out);
-        match self.temit(rows, cells, op, rule, refs, p, q) {
-            Got::Is(s, row) => Two::Pair(s, out, row),
-            Got::Refused(s, e) => Two::Refused(s, e),
-        }
+        let p = tables.quote(i);
+        let q = tables.quote(out);
+        let (s, row) = self.temit(tables, op, rule, refs, p, q)?;
+        Ok((s, (out, row)))
     }
 
     // The result is made, then the row, by the rule of its kind.
     #[tactic(auto, unfolding(crate::specs::Transforms::finish, crate::specs::Transforms::rule_of, crate::proofs::Steps::steps))]
     pub fn tmake(
         self,
-        rows: &mut [u32],
-        cells: &mut [u32],
+        tables: &mut Tables,
         i: u32,
         op: Op,
         kind: u32,
@@ -209,173 +194,119 @@ impl State {
         b: u32,
         c: u32,
         refs: Refs,
-    ) -> Two
-        ensures { end_2 result rows.new cells.new ≡ finish i op (intern kind a b c) (rule_of op kind) refs (machine rows.old cells.old self) }
+    ) -> Answer<(u32, u32)>
+        ensures { end result tables.new ≡ finish i op (intern kind a b c) (rule_of op kind) refs (over tables.old self) }
     {
-        match self.intern(rows, cells, kind, a, b, c) {
-            Got::Is(s, out) => {
-                let rule = rule_of(op, kind);
-                s.finish(rows, cells, i, op, out, rule, refs)
-            }
-            Got::Refused(s, e) => Two::Refused(s, e),
-        }
+        let (s, out) = self.intern(tables, kind, a, b, c)?;
+        let rule = rule_of(op, kind);
+        s.finish(tables, i, op, out, rule, refs)
     }
 
     // The same of a variable, which has a rule for each way that it compares.
     #[tactic(auto, unfolding(crate::specs::Transforms::finish, crate::proofs::Steps::steps))]
     pub fn tmake_var(
         self,
-        rows: &mut [u32],
-        cells: &mut [u32],
+        tables: &mut Tables,
         i: u32,
         op: Op,
         n: u32,
-        rule: u32,
+        rule: Rule,
         refs: Refs,
-    ) -> Two
-        ensures { end_2 result rows.new cells.new ≡ finish i op (make_var n) rule refs (machine rows.old cells.old self) }
+    ) -> Answer<(u32, u32)>
+        ensures { end result tables.new ≡ finish i op (make_var n) (rule_number rule) refs (over tables.old self) }
     {
-        match self.intern(rows, cells, kinds::VAR, n, 0, 0) {
-            Got::Is(s, out) => s.finish(rows, cells, i, op, out, rule, refs),
-            Got::Refused(s, e) => Two::Refused(s, e),
-        }
+        let (s, out) = self.intern(tables, kinds::VAR, n, 0, 0)?;
+        s.finish(tables, i, op, out, rule, refs)
     }
 
     // The variable `n`, shifted from `k` on.
-    #[tactic(auto, unfolding(crate::specs::Transforms::tvar_shift, crate::proofs::Steps::steps))]
+    #[tactic(auto, unfolding(crate::specs::Transforms::tvar_shift, crate::proofs::Steps::steps, crate::proofs::Steps::stated))]
     pub fn tvar_shift(
         self,
         left: u32,
-        rows: &mut [u32],
-        cells: &mut [u32],
+        tables: &mut Tables,
         i: u32,
         n: u32,
         k: u32,
-    ) -> Two
-        ensures { end_2 result rows.new cells.new ≡ tvar_shift (callees left) i n k (machine rows.old cells.old self) }
+    ) -> Answer<(u32, u32)>
+        ensures { end result tables.new ≡ tvar_shift (callees left) i n k (over tables.old self) }
     {
         let op = Op::Shift(k);
         if n < k {
-            return match self.comparison(left, rows, cells, n, k, true) {
-                Got::Is(s, x) => {
-                    let refs = cite1(x);
-                    s.finish(rows, cells, i, op, i, codes::SHIFT_V_LT, refs)
-                }
-                Got::Refused(s, e) => Two::Refused(s, e),
-            };
+            let (s, x) = self.comparison(left, tables, n, k, true)?;
+            return s.finish(tables, i, op, i, Rule::ShiftVLt, cite([x]));
         }
-        match self.comparison(left, rows, cells, k, n, false) {
-            Got::Is(s, x) => {
-                let refs = cite1(x);
-                let up = succ(n);
-                s.tmake_var(rows, cells, i, op, up, codes::SHIFT_V_GE, refs)
-            }
-            Got::Refused(s, e) => Two::Refused(s, e),
-        }
+        let (s, x) = self.comparison(left, tables, k, n, false)?;
+        s.tmake_var(tables, i, op, succ(n), Rule::ShiftVGe, cite([x]))
     }
 
     // The variable `n`, where `r` is put for `k`.
-    #[tactic(auto, unfolding(crate::specs::Transforms::tvar_subst, crate::proofs::Steps::steps))]
+    #[tactic(auto, unfolding(crate::specs::Transforms::tvar_subst, crate::proofs::Steps::steps, crate::proofs::Steps::stated))]
     pub fn tvar_subst(
         self,
         left: u32,
-        rows: &mut [u32],
-        cells: &mut [u32],
+        tables: &mut Tables,
         i: u32,
         n: u32,
         k: u32,
         r: u32,
-    ) -> Two
-        ensures { end_2 result rows.new cells.new ≡ tvar_subst (callees left) i n k r (machine rows.old cells.old self) }
+    ) -> Answer<(u32, u32)>
+        ensures { end result tables.new ≡ tvar_subst (callees left) i n k r (over tables.old self) }
     {
         let op = Op::Subst(k, r);
         if n == k {
-            let refs = cite0();
-            return self.finish(rows, cells, i, op, r, codes::SUBST_V_HIT, refs);
+            return self.finish(tables, i, op, r, Rule::SubstVHit, cite([]));
         }
         if n < k {
-            return match self.comparison(left, rows, cells, n, k, true) {
-                Got::Is(s, x) => {
-                    let refs = cite1(x);
-                    s.finish(rows, cells, i, op, i, codes::SUBST_V_LT, refs)
-                }
-                Got::Refused(s, e) => Two::Refused(s, e),
-            };
+            let (s, x) = self.comparison(left, tables, n, k, true)?;
+            return s.finish(tables, i, op, i, Rule::SubstVLt, cite([x]));
         }
-        match self.comparison(left, rows, cells, k, n, true) {
-            Got::Is(s, x) => {
-                let refs = cite1(x);
-                s.tmake_var(rows, cells, i, op, n - 1, codes::SUBST_V_GT, refs)
-            }
-            Got::Refused(s, e) => Two::Refused(s, e),
-        }
+        let (s, x) = self.comparison(left, tables, k, n, true)?;
+        s.tmake_var(tables, i, op, n - 1, Rule::SubstVGt, cite([x]))
     }
 
     // The variable `n`.
-    #[tactic(auto, unfolding(crate::specs::Transforms::tvar, crate::proofs::Steps::steps))]
-    pub fn tvar(self, left: u32, rows: &mut [u32], cells: &mut [u32], i: u32, n: u32, op: Op) -> Two
-        ensures { end_2 result rows.new cells.new ≡ tvar (callees left) i n op (machine rows.old cells.old self) }
+    #[tactic(auto, unfolding(crate::specs::Transforms::tvar, crate::proofs::Steps::steps, crate::proofs::Steps::stated))]
+    pub fn tvar(self, left: u32, tables: &mut Tables, i: u32, n: u32, op: Op) -> Answer<(u32, u32)>
+        ensures { end result tables.new ≡ tvar (callees left) i n op (over tables.old self) }
     {
         match op {
-            Op::Shift(k) => self.tvar_shift(left, rows, cells, i, n, k),
-            Op::Subst(k, r) => self.tvar_subst(left, rows, cells, i, n, k, r),
-            Op::DShift(k) => {
-                let refs = cite0();
-                self.finish(rows, cells, i, Op::DShift(k), i, codes::DSHIFT_V, refs)
-            }
-            Op::DSubst(k, r) => {
-                let refs = cite0();
-                self.finish(rows, cells, i, Op::DSubst(k, r), i, codes::DSUBST_V, refs)
-            }
+            Op::Shift(k) => self.tvar_shift(left, tables, i, n, k),
+            Op::Subst(k, r) => self.tvar_subst(left, tables, i, n, k, r),
+            Op::DShift(_) => self.finish(tables, i, op, i, Rule::DShiftV, cite([])),
+            Op::DSubst(_, _) => self.finish(tables, i, op, i, Rule::DSubstV, cite([])),
         }
     }
 
     // The interval of a papp, with the rows that this cites.
-    #[tactic(auto, unfolding(crate::specs::Transforms::tinterval, crate::proofs::Steps::steps))]
-    pub fn tinterval(self, left: u32, rows: &mut [u32], cells: &mut [u32], r: u32, op: Op) -> Cited
-        ensures { end_cited result rows.new cells.new ≡ tinterval (callees left) r op (machine rows.old cells.old self) }
+    #[tactic(auto, unfolding(crate::specs::Transforms::tinterval, crate::proofs::Steps::steps, crate::proofs::Steps::stated))]
+    pub fn tinterval(self, left: u32, tables: &mut Tables, r: u32, op: Op) -> Answer<(u32, Refs)>
+        ensures { end result tables.new ≡ tinterval (callees left) r op (over tables.old self) }
     {
-        match op {
-            Op::Shift(_) => {
-                let refs = cite0();
-                Cited::With(self, r, refs)
-            }
-            Op::Subst(_, _) => {
-                let refs = cite0();
-                Cited::With(self, r, refs)
-            }
-            Op::DShift(k) => match self.itransform(left, rows, cells, r, IOp::IShift(k)) {
-                Two::Pair(s, out, x) => {
-                    let refs = cite1(x);
-                    Cited::With(s, out, refs)
-                }
-                Two::Refused(s, e) => Cited::Refused(s, e),
-            },
-            Op::DSubst(k, q) => match self.itransform(left, rows, cells, r, IOp::ISubst(k, q)) {
-                Two::Pair(s, out, x) => {
-                    let refs = cite1(x);
-                    Cited::With(s, out, refs)
-                }
-                Two::Refused(s, e) => Cited::Refused(s, e),
-            },
-        }
+        let within = match op {
+            Op::Shift(_) | Op::Subst(_, _) => return Ok((self, (r, cite([])))),
+            Op::DShift(k) => IOp::IShift(k),
+            Op::DSubst(k, q) => IOp::ISubst(k, q),
+        };
+        let (s, (out, x)) = self.itransform(left, tables, r, within)?;
+        Ok((s, (out, cite([x]))))
     }
 
     // The term with its variables or dimensions shifted or substituted: the result, and the row.
     #[cycle(transform)]
-    pub fn transform(self, left: u32, rows: &mut [u32], cells: &mut [u32], i: u32, op: Op) -> Two
-        ensures { end_2 result rows.new cells.new ≡ (callees left).transform i op (machine rows.old cells.old self) }
+    pub fn transform(self, left: u32, tables: &mut Tables, i: u32, op: Op) -> Answer<(u32, u32)>
+        ensures { end result tables.new ≡ (callees left).transform i op (over tables.old self) }
     {
         if left == 0 {
-            return Two::Refused(self, refusals::NESTING);
+            return Err(self.refused(refusals::NESTING));
         }
         let down = left - 1;
         let s0 = self.deeper(down);
-        let cell = read(cells, i);
+        let cell = tables.read(i);
         if cell.kind == kinds::VAR {
-            return s0.tvar(down, rows, cells, i, cell.a, op);
+            return s0.tvar(down, tables, i, cell.a, op);
         }
-        s0.compound(down, rows, cells, i, op, cell)
+        s0.compound(down, tables, i, op, cell)
     }
 
     // A term that is no variable: by its kind, and as it is where it has no parts.
@@ -383,51 +314,26 @@ impl State {
     pub fn compound(
         self,
         left: u32,
-        rows: &mut [u32],
-        cells: &mut [u32],
+        tables: &mut Tables,
         i: u32,
         op: Op,
         cell: Cell,
-    ) -> Two
-        ensures { end_2 result rows.new cells.new ≡ compound (callees left) i op cell (machine rows.old cells.old self) }
+    ) -> Answer<(u32, u32)>
+        ensures { end result tables.new ≡ compound (callees left) i op cell (over tables.old self) }
     {
-        let kind = cell.kind;
-        match kind {
-            kinds::PI => {
-                return self.tbinder(left, rows, cells, i, op, kinds::PI, cell.a, cell.b);
-            }
-            kinds::LAM => {
-                return self.tlam(left, rows, cells, i, op, cell.a, cell.b);
-            }
-            kinds::APP => {
-                return self.tapp(left, rows, cells, i, op, cell.a, cell.b);
-            }
-            kinds::PATH => {
-                return self.tpath(left, rows, cells, i, op, cell.a, cell.b, cell.c);
-            }
-            kinds::PLAM => {
-                return self.tplam(left, rows, cells, i, op, cell.a, cell.b);
-            }
-            kinds::PAPP => {
-                return self.tpapp(left, rows, cells, i, op, cell.a, cell.b);
-            }
-            kinds::SIGMA => {
-                return self.tbinder(left, rows, cells, i, op, kinds::SIGMA, cell.a, cell.b);
-            }
-            kinds::PAIR => {
-                return self.tpair(left, rows, cells, i, op, cell.a, cell.b, cell.c);
-            }
-            kinds::FST => {
-                return self.tproject(left, rows, cells, i, op, kinds::FST, cell.a);
-            }
-            kinds::SND => {
-                return self.tproject(left, rows, cells, i, op, kinds::SND, cell.a);
-            }
-            _ => {}
+        match cell.kind {
+            kinds::PI => self.tbinder(left, tables, i, op, kinds::PI, cell.a, cell.b),
+            kinds::LAM => self.tlam(left, tables, i, op, cell.a, cell.b),
+            kinds::APP => self.tapp(left, tables, i, op, cell.a, cell.b),
+            kinds::PATH => self.tpath(left, tables, i, op, cell.a, cell.b, cell.c),
+            kinds::PLAM => self.tplam(left, tables, i, op, cell.a, cell.b),
+            kinds::PAPP => self.tpapp(left, tables, i, op, cell.a, cell.b),
+            kinds::SIGMA => self.tbinder(left, tables, i, op, kinds::SIGMA, cell.a, cell.b),
+            kinds::PAIR => self.tpair(left, tables, i, op, cell.a, cell.b, cell.c),
+            kinds::FST => self.tproject(left, tables, i, op, kinds::FST, cell.a),
+            kinds::SND => self.tproject(left, tables, i, op, kinds::SND, cell.a),
+            kind => self.finish(tables, i, op, i, rule_of(op, kind), cite([])),
         }
-        let refs = cite0();
-        let rule = rule_of(op, kind);
-        self.finish(rows, cells, i, op, i, rule, refs)
     }
 
     // Two parts, the second under a variable, and both shown: a pi, a sigma.
@@ -435,31 +341,28 @@ impl State {
     pub fn tbinder(
         self,
         left: u32,
-        rows: &mut [u32],
-        cells: &mut [u32],
+        tables: &mut Tables,
         i: u32,
         op: Op,
         kind: u32,
         a: u32,
         b: u32,
-    ) -> Two
-        ensures { end_2 result rows.new cells.new ≡ transform_binder (callees left) i op kind a b (machine rows.old cells.old self) }
+    ) -> Answer<(u32, u32)>
+        ensures { end result tables.new ≡ transform_binder (callees left) i op kind a b (over tables.old self) }
     {
-        let q1 = self.transform(left, rows, cells, a, op);
-        let Two::Pair(s1, a1, x) = q1 else {
-            return q1;
-        };
-        match s1.under(left, rows, cells, op, false) {
-            Inner::Within(s2, inner, first) => {
-                let q3 = s2.transform(left, rows, cells, b, inner);
-                let Two::Pair(s3, b1, y) = q3 else {
-                    return q3;
-                };
-                let refs = cite_before(x, cite_first(first, cite1(y)));
-                s3.tmake(rows, cells, i, op, kind, a1, b1, 0, refs)
-            }
-            Inner::Refused(s2, e) => Two::Refused(s2, e),
-        }
+        let (s1, (a1, x)) = self.transform(left, tables, a, op)?;
+        let (s2, (inner, first)) = s1.under(left, tables, op, false)?;
+        let (s3, (b1, y)) = s2.transform(left, tables, b, inner)?;
+        s3.tmake(
+            tables,
+            i,
+            op,
+            kind,
+            a1,
+            b1,
+            0,
+            cite_before(x, cite_first(first, cite([y]))),
+        )
     }
 
     // The annotation is transformed, and its row not cited: the quote lacks it.
@@ -467,30 +370,27 @@ impl State {
     pub fn tlam(
         self,
         left: u32,
-        rows: &mut [u32],
-        cells: &mut [u32],
+        tables: &mut Tables,
         i: u32,
         op: Op,
         a: u32,
         b: u32,
-    ) -> Two
-        ensures { end_2 result rows.new cells.new ≡ transform_lam (callees left) i op a b (machine rows.old cells.old self) }
+    ) -> Answer<(u32, u32)>
+        ensures { end result tables.new ≡ transform_lam (callees left) i op a b (over tables.old self) }
     {
-        let q1 = self.transform(left, rows, cells, a, op);
-        let Two::Pair(s1, a1, _) = q1 else {
-            return q1;
-        };
-        match s1.under(left, rows, cells, op, false) {
-            Inner::Within(s2, inner, first) => {
-                let q3 = s2.transform(left, rows, cells, b, inner);
-                let Two::Pair(s3, b1, y) = q3 else {
-                    return q3;
-                };
-                let refs = cite_first(first, cite1(y));
-                s3.tmake(rows, cells, i, op, kinds::LAM, a1, b1, 0, refs)
-            }
-            Inner::Refused(s2, e) => Two::Refused(s2, e),
-        }
+        let (s1, (a1, _)) = self.transform(left, tables, a, op)?;
+        let (s2, (inner, first)) = s1.under(left, tables, op, false)?;
+        let (s3, (b1, y)) = s2.transform(left, tables, b, inner)?;
+        s3.tmake(
+            tables,
+            i,
+            op,
+            kinds::LAM,
+            a1,
+            b1,
+            0,
+            cite_first(first, cite([y])),
+        )
     }
 
     // An application.
@@ -498,25 +398,17 @@ impl State {
     pub fn tapp(
         self,
         left: u32,
-        rows: &mut [u32],
-        cells: &mut [u32],
+        tables: &mut Tables,
         i: u32,
         op: Op,
         f: u32,
         a: u32,
-    ) -> Two
-        ensures { end_2 result rows.new cells.new ≡ transform_app (callees left) i op f a (machine rows.old cells.old self) }
+    ) -> Answer<(u32, u32)>
+        ensures { end result tables.new ≡ transform_app (callees left) i op f a (over tables.old self) }
     {
-        let q1 = self.transform(left, rows, cells, f, op);
-        let Two::Pair(s1, f1, x) = q1 else {
-            return q1;
-        };
-        let q2 = s1.transform(left, rows, cells, a, op);
-        let Two::Pair(s2, a1, y) = q2 else {
-            return q2;
-        };
-        let refs = cite2(x, y);
-        s2.tmake(rows, cells, i, op, kinds::APP, f1, a1, 0, refs)
+        let (s1, (f1, x)) = self.transform(left, tables, f, op)?;
+        let (s2, (a1, y)) = s1.transform(left, tables, a, op)?;
+        s2.tmake(tables, i, op, kinds::APP, f1, a1, 0, cite([x, y]))
     }
 
     // A path type: its first part lies under a dimension.
@@ -524,35 +416,29 @@ impl State {
     pub fn tpath(
         self,
         left: u32,
-        rows: &mut [u32],
-        cells: &mut [u32],
+        tables: &mut Tables,
         i: u32,
         op: Op,
         a: u32,
         b: u32,
         c: u32,
-    ) -> Two
-        ensures { end_2 result rows.new cells.new ≡ transform_path (callees left) i op a b c (machine rows.old cells.old self) }
+    ) -> Answer<(u32, u32)>
+        ensures { end result tables.new ≡ transform_path (callees left) i op a b c (over tables.old self) }
     {
-        match self.under(left, rows, cells, op, true) {
-            Inner::Within(s0, inner, first) => {
-                let q1 = s0.transform(left, rows, cells, a, inner);
-                let Two::Pair(s1, a1, x) = q1 else {
-                    return q1;
-                };
-                let q2 = s1.transform(left, rows, cells, b, op);
-                let Two::Pair(s2, b1, y) = q2 else {
-                    return q2;
-                };
-                let q3 = s2.transform(left, rows, cells, c, op);
-                let Two::Pair(s3, c1, z) = q3 else {
-                    return q3;
-                };
-                let refs = cite_first(first, cite3(x, y, z));
-                s3.tmake(rows, cells, i, op, kinds::PATH, a1, b1, c1, refs)
-            }
-            Inner::Refused(s0, e) => Two::Refused(s0, e),
-        }
+        let (s0, (inner, first)) = self.under(left, tables, op, true)?;
+        let (s1, (a1, x)) = s0.transform(left, tables, a, inner)?;
+        let (s2, (b1, y)) = s1.transform(left, tables, b, op)?;
+        let (s3, (c1, z)) = s2.transform(left, tables, c, op)?;
+        s3.tmake(
+            tables,
+            i,
+            op,
+            kinds::PATH,
+            a1,
+            b1,
+            c1,
+            cite_first(first, cite([x, y, z])),
+        )
     }
 
     // As of a lam, the annotation's row is not cited.
@@ -560,30 +446,27 @@ impl State {
     pub fn tplam(
         self,
         left: u32,
-        rows: &mut [u32],
-        cells: &mut [u32],
+        tables: &mut Tables,
         i: u32,
         op: Op,
         a: u32,
         b: u32,
-    ) -> Two
-        ensures { end_2 result rows.new cells.new ≡ transform_plam (callees left) i op a b (machine rows.old cells.old self) }
+    ) -> Answer<(u32, u32)>
+        ensures { end result tables.new ≡ transform_plam (callees left) i op a b (over tables.old self) }
     {
-        match self.under(left, rows, cells, op, true) {
-            Inner::Within(s0, inner, first) => {
-                let q1 = s0.transform(left, rows, cells, a, inner);
-                let Two::Pair(s1, a1, _) = q1 else {
-                    return q1;
-                };
-                let q2 = s1.transform(left, rows, cells, b, inner);
-                let Two::Pair(s2, b1, y) = q2 else {
-                    return q2;
-                };
-                let refs = cite_first(first, cite1(y));
-                s2.tmake(rows, cells, i, op, kinds::PLAM, a1, b1, 0, refs)
-            }
-            Inner::Refused(s0, e) => Two::Refused(s0, e),
-        }
+        let (s0, (inner, first)) = self.under(left, tables, op, true)?;
+        let (s1, (a1, _)) = s0.transform(left, tables, a, inner)?;
+        let (s2, (b1, y)) = s1.transform(left, tables, b, inner)?;
+        s2.tmake(
+            tables,
+            i,
+            op,
+            kinds::PLAM,
+            a1,
+            b1,
+            0,
+            cite_first(first, cite([y])),
+        )
     }
 
     // A path that is applied: its interval has dimensions, and no variables.
@@ -591,26 +474,17 @@ impl State {
     pub fn tpapp(
         self,
         left: u32,
-        rows: &mut [u32],
-        cells: &mut [u32],
+        tables: &mut Tables,
         i: u32,
         op: Op,
         p: u32,
         r: u32,
-    ) -> Two
-        ensures { end_2 result rows.new cells.new ≡ transform_papp (callees left) i op p r (machine rows.old cells.old self) }
+    ) -> Answer<(u32, u32)>
+        ensures { end result tables.new ≡ transform_papp (callees left) i op p r (over tables.old self) }
     {
-        let q1 = self.transform(left, rows, cells, p, op);
-        let Two::Pair(s1, p1, x) = q1 else {
-            return q1;
-        };
-        match s1.tinterval(left, rows, cells, r, op) {
-            Cited::With(s2, r1, rest) => {
-                let refs = cite_before(x, rest);
-                s2.tmake(rows, cells, i, op, kinds::PAPP, p1, r1, 0, refs)
-            }
-            Cited::Refused(s2, e) => Two::Refused(s2, e),
-        }
+        let (s1, (p1, x)) = self.transform(left, tables, p, op)?;
+        let (s2, (r1, rest)) = s1.tinterval(left, tables, r, op)?;
+        s2.tmake(tables, i, op, kinds::PAPP, p1, r1, 0, cite_before(x, rest))
     }
 
     // A pair: as of a lam, the annotation's row is not cited.
@@ -618,30 +492,19 @@ impl State {
     pub fn tpair(
         self,
         left: u32,
-        rows: &mut [u32],
-        cells: &mut [u32],
+        tables: &mut Tables,
         i: u32,
         op: Op,
         ty: u32,
         a: u32,
         b: u32,
-    ) -> Two
-        ensures { end_2 result rows.new cells.new ≡ transform_pair (callees left) i op ty a b (machine rows.old cells.old self) }
+    ) -> Answer<(u32, u32)>
+        ensures { end result tables.new ≡ transform_pair (callees left) i op ty a b (over tables.old self) }
     {
-        let q1 = self.transform(left, rows, cells, ty, op);
-        let Two::Pair(s1, ty1, _) = q1 else {
-            return q1;
-        };
-        let q2 = s1.transform(left, rows, cells, a, op);
-        let Two::Pair(s2, a1, x) = q2 else {
-            return q2;
-        };
-        let q3 = s2.transform(left, rows, cells, b, op);
-        let Two::Pair(s3, b1, y) = q3 else {
-            return q3;
-        };
-        let refs = cite2(x, y);
-        s3.tmake(rows, cells, i, op, kinds::PAIR, ty1, a1, b1, refs)
+        let (s1, (ty1, _)) = self.transform(left, tables, ty, op)?;
+        let (s2, (a1, x)) = s1.transform(left, tables, a, op)?;
+        let (s3, (b1, y)) = s2.transform(left, tables, b, op)?;
+        s3.tmake(tables, i, op, kinds::PAIR, ty1, a1, b1, cite([x, y]))
     }
 
     // One part: a projection.
@@ -649,21 +512,16 @@ impl State {
     pub fn tproject(
         self,
         left: u32,
-        rows: &mut [u32],
-        cells: &mut [u32],
+        tables: &mut Tables,
         i: u32,
         op: Op,
         kind: u32,
         p: u32,
-    ) -> Two
-        ensures { end_2 result rows.new cells.new ≡ transform_projection (callees left) i op kind p (machine rows.old cells.old self) }
+    ) -> Answer<(u32, u32)>
+        ensures { end result tables.new ≡ transform_projection (callees left) i op kind p (over tables.old self) }
     {
-        let q1 = self.transform(left, rows, cells, p, op);
-        let Two::Pair(s1, p1, x) = q1 else {
-            return q1;
-        };
-        let refs = cite1(x);
-        s1.tmake(rows, cells, i, op, kind, p1, 0, 0, refs)
+        let (s1, (p1, x)) = self.transform(left, tables, p, op)?;
+        s1.tmake(tables, i, op, kind, p1, 0, 0, cite([x]))
     }
 
     // The operation under one more binder, of a dimension or of a variable, with the rows that this cites.
@@ -671,49 +529,37 @@ impl State {
     pub fn under(
         self,
         left: u32,
-        rows: &mut [u32],
-        cells: &mut [u32],
+        tables: &mut Tables,
         op: Op,
         dimension: bool,
-    ) -> Inner
-        ensures { end_inner result rows.new cells.new ≡ (callees left).under op dimension (machine rows.old cells.old self) }
+    ) -> Answer<(Op, Refs)>
+        ensures { end result tables.new ≡ (callees left).under op dimension (over tables.old self) }
     {
         if left == 0 {
-            return Inner::Refused(self, refusals::NESTING);
+            return Err(self.refused(refusals::NESTING));
         }
         let down = left - 1;
         let s0 = self.deeper(down);
         match op {
             Op::Shift(k) => {
-                let refs = cite0();
                 if dimension {
-                    return Inner::Within(s0, op, refs);
+                    return Ok((s0, (op, cite([]))));
                 }
-                let up = succ(k);
-                Inner::Within(s0, Op::Shift(up), refs)
+                Ok((s0, (Op::Shift(succ(k)), cite([]))))
             }
-            Op::Subst(k, r) => s0.under_subst(down, rows, cells, k, r, dimension),
+            Op::Subst(k, r) => s0.under_subst(down, tables, k, r, dimension),
             Op::DShift(k) => {
-                let refs = cite0();
                 if dimension {
-                    let up = succ(k);
-                    return Inner::Within(s0, Op::DShift(up), refs);
+                    return Ok((s0, (Op::DShift(succ(k)), cite([]))));
                 }
-                Inner::Within(s0, op, refs)
+                Ok((s0, (op, cite([]))))
             }
             Op::DSubst(k, r) => {
                 if dimension {
-                    return match s0.itransform(down, rows, cells, r, IOp::IShift(0)) {
-                        Two::Pair(s, r1, x) => {
-                            let refs = cite1(x);
-                            let up = succ(k);
-                            Inner::Within(s, Op::DSubst(up, r1), refs)
-                        }
-                        Two::Refused(s, e) => Inner::Refused(s, e),
-                    };
+                    let (s, (r1, x)) = s0.itransform(down, tables, r, IOp::IShift(0))?;
+                    return Ok((s, (Op::DSubst(succ(k), r1), cite([x]))));
                 }
-                let refs = cite0();
-                Inner::Within(s0, op, refs)
+                Ok((s0, (op, cite([]))))
             }
         }
     }
@@ -723,30 +569,18 @@ impl State {
     pub fn under_subst(
         self,
         left: u32,
-        rows: &mut [u32],
-        cells: &mut [u32],
+        tables: &mut Tables,
         k: u32,
         r: u32,
         dimension: bool,
-    ) -> Inner
-        ensures { end_inner result rows.new cells.new ≡ under_subst (callees left) k r dimension (machine rows.old cells.old self) }
+    ) -> Answer<(Op, Refs)>
+        ensures { end result tables.new ≡ under_subst (callees left) k r dimension (over tables.old self) }
     {
         if dimension {
-            return match self.transform(left, rows, cells, r, Op::DShift(0)) {
-                Two::Pair(s, r1, x) => {
-                    let refs = cite1(x);
-                    Inner::Within(s, Op::Subst(k, r1), refs)
-                }
-                Two::Refused(s, e) => Inner::Refused(s, e),
-            };
+            let (s, (r1, x)) = self.transform(left, tables, r, Op::DShift(0))?;
+            return Ok((s, (Op::Subst(k, r1), cite([x]))));
         }
-        match self.transform(left, rows, cells, r, Op::Shift(0)) {
-            Two::Pair(s, r1, x) => {
-                let refs = cite1(x);
-                let up = succ(k);
-                Inner::Within(s, Op::Subst(up, r1), refs)
-            }
-            Two::Refused(s, e) => Inner::Refused(s, e),
-        }
+        let (s, (r1, x)) = self.transform(left, tables, r, Op::Shift(0))?;
+        Ok((s, (Op::Subst(succ(k), r1), cite([x]))))
     }
 }

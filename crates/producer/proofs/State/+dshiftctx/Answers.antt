@@ -1,33 +1,44 @@
 -- Made by tools/prove.py: to make it again, run `python3 tools/prove.py producer`.
 use borrow.Author.Tests.{eq-eqb, ne_eqb}
-use Rattle.producer.specs.Contexts.{dshiftctx_body}
+use Rattle.producer.specs.Contexts.{context_row, dshiftctx_body}
 use Rattle.producer.proofs.At as law
-use Rattle.producer.proofs.Steps.{steps}
+use Rattle.producer.proofs.Steps.{steps, stated}
 use Rattle.producer.proofs.State.+dshiftctx.Goals as goal
 
 pub returns-then-left-eq0 : goal.returns-then-left-eq0
-unfolding dshiftctx_body steps
-returns-then-left-eq0 t c = rw (law.dshiftctx_none _ _ _ c.if-left-eq0.true)
+unfolding dshiftctx_body context_row steps stated
+returns-then-left-eq0 t c = rw (law.dshiftctx_none _ _ _ c.if-left-eq0.true, c.refused.ensures)
+
+pub returns-in_err-s : goal.returns-in_err-s
+unfolding dshiftctx_body context_row steps stated
+returns-in_err-s t c = rw (law.dshiftctx_in _ _ _ c.if-left-eq0.false, ← c.deeper-s0.ensures, ← c.read-cell.ensures, eq-eqb _ _ c.if-cell-eq-NIL.true, ← c.quote-to.ensures, ← c.cite.ensures)
+    (rw (law.residual _ _ c.from_residual.ensures.1, ← c.in_err-s.ensures))
 
 pub returns-then-cell-eq-NIL : goal.returns-then-cell-eq-NIL
-unfolding dshiftctx_body steps
-returns-then-cell-eq-NIL t c = rw (law.dshiftctx_in _ _ _ c.if-left-eq0.false, ← c.deeper-s0.ensures, ← c.read-cell.ensures, eq-eqb _ _ c.if-cell-eq-NIL.true, ← c.cite0-refs.ensures, ← c.context_row.ensures)
+unfolding dshiftctx_body context_row steps stated
+returns-then-cell-eq-NIL t c = rw (law.dshiftctx_in _ _ _ c.if-left-eq0.false, ← c.deeper-s0.ensures, ← c.read-cell.ensures, eq-eqb _ _ c.if-cell-eq-NIL.true, ← c.quote-to.ensures, ← c.cite.ensures)
+    (rw (← c.in_ok-s.ensures))
 
-pub returns-in_default : goal.returns-in_default
-unfolding dshiftctx_body steps
-returns-in_default t c = rw (law.dshiftctx_in _ _ _ c.if-left-eq0.false, ← c.deeper-s0.ensures, ← c.read-cell.ensures, ne_eqb _ _ c.if-cell-eq-NIL.false, ← c.dshiftctx-q1.ensures, c.in_default.is)
+pub returns-in_err-s1 : goal.returns-in_err-s1
+unfolding dshiftctx_body context_row steps stated
+returns-in_err-s1 t c = rw (law.dshiftctx_in _ _ _ c.if-left-eq0.false, ← c.deeper-s0.ensures, ← c.read-cell.ensures, ne_eqb _ _ c.if-cell-eq-NIL.false, law.residual _ _ c.from_residual-in_err-s1.ensures.1, ← c.in_err-s1.ensures)
 
-pub returns-in_default-q2 : goal.returns-in_default-q2
-unfolding dshiftctx_body steps
-returns-in_default-q2 t c = rw (law.dshiftctx_in _ _ _ c.if-left-eq0.false, ← c.deeper-s0.ensures, ← c.read-cell.ensures, ne_eqb _ _ c.if-cell-eq-NIL.false, ← c.dshiftctx-q1.ensures, c.in-Pair.is)
-    (rw (← c.transform-q2.ensures, c.in_default-q2.is))
+pub returns-in_err-s2 : goal.returns-in_err-s2
+unfolding dshiftctx_body context_row steps stated
+returns-in_err-s2 t c = rw (law.dshiftctx_in _ _ _ c.if-left-eq0.false, ← c.deeper-s0.ensures, ← c.read-cell.ensures, ne_eqb _ _ c.if-cell-eq-NIL.false, ← c.in_ok-s1.ensures, law.residual _ _ c.from_residual-in_err-s2.ensures.1)
+    (rw (← c.in_err-s2.ensures))
 
-pub returns-in-Is : goal.returns-in-Is
-unfolding dshiftctx_body steps
-returns-in-Is t c = rw (law.dshiftctx_in _ _ _ c.if-left-eq0.false, ← c.deeper-s0.ensures, ← c.read-cell.ensures, ne_eqb _ _ c.if-cell-eq-NIL.false, ← c.dshiftctx-q1.ensures, c.in-Pair.is)
-    (rw (← c.transform-q2.ensures, c.in-Pair-q2.is, ← c.intern.ensures, c.in-Is.is, ← c.cite2-refs.ensures, ← c.context_row-in-Is.ensures))
+pub returns-in_err-s3 : goal.returns-in_err-s3
+unfolding dshiftctx_body context_row steps stated
+returns-in_err-s3 t c = rw (law.dshiftctx_in _ _ _ c.if-left-eq0.false, ← c.deeper-s0.ensures, ← c.read-cell.ensures, ne_eqb _ _ c.if-cell-eq-NIL.false, ← c.in_ok-s1.ensures, ← c.in_ok-s2.ensures)
+    (rw (law.residual _ _ c.from_residual-in_err-s3.ensures.1, ← c.in_err-s3.ensures))
 
-pub returns-in-Refused : goal.returns-in-Refused
-unfolding dshiftctx_body steps
-returns-in-Refused t c = rw (law.dshiftctx_in _ _ _ c.if-left-eq0.false, ← c.deeper-s0.ensures, ← c.read-cell.ensures, ne_eqb _ _ c.if-cell-eq-NIL.false, ← c.dshiftctx-q1.ensures, c.in-Pair.is)
-    (rw (← c.transform-q2.ensures, c.in-Pair-q2.is, ← c.intern.ensures, c.in-Refused.is))
+pub returns-in_err-s-2 : goal.returns-in_err-s-2
+unfolding dshiftctx_body context_row steps stated
+returns-in_err-s-2 t c = rw (law.dshiftctx_in _ _ _ c.if-left-eq0.false, ← c.deeper-s0.ensures, ← c.read-cell.ensures, ne_eqb _ _ c.if-cell-eq-NIL.false, ← c.in_ok-s1.ensures, ← c.in_ok-s2.ensures)
+    (rw (← c.in_ok-s3.ensures, ← c.quote-to-2.ensures, ← c.cite-2.ensures, law.residual _ _ c.from_residual-in_err-s-2.ensures.1, ← c.in_err-s-2.ensures))
+
+pub returns : goal.returns
+unfolding dshiftctx_body context_row steps stated
+returns t c = rw (law.dshiftctx_in _ _ _ c.if-left-eq0.false, ← c.deeper-s0.ensures, ← c.read-cell.ensures, ne_eqb _ _ c.if-cell-eq-NIL.false, ← c.in_ok-s1.ensures, ← c.in_ok-s2.ensures)
+    (rw (← c.in_ok-s3.ensures, ← c.quote-to-2.ensures, ← c.cite-2.ensures, ← c.in_ok-s-2.ensures))

@@ -1,39 +1,49 @@
 -- Made by tools/prove.py: to make it again, run `python3 tools/prove.py producer`.
 use borrow.Author.Tests.{eq-eqb, ne_eqb}
-use Rattle.producer.specs.Contexts.{lookup_body}
+use Rattle.producer.specs.Contexts.{context_row, lookup_body}
 use Rattle.producer.proofs.At as law
-use Rattle.producer.proofs.Steps.{steps}
+use Rattle.producer.proofs.Steps.{steps, stated}
 use Rattle.producer.proofs.State.+lookup.Goals as goal
 
 pub returns-then-left-eq0 : goal.returns-then-left-eq0
-unfolding lookup_body steps
-returns-then-left-eq0 t c = rw (law.lookup_none _ _ _ _ c.if-left-eq0.true)
+unfolding lookup_body context_row steps stated
+returns-then-left-eq0 t c = rw (law.lookup_none _ _ _ _ c.if-left-eq0.true, c.refused.ensures)
 
 pub returns-then-cell-eq-NIL : goal.returns-then-cell-eq-NIL
-unfolding lookup_body steps
-returns-then-cell-eq-NIL t c = rw (law.lookup_in _ _ _ _ c.if-left-eq0.false, ← c.deeper-s0.ensures, ← c.read-cell.ensures, eq-eqb _ _ c.if-cell-eq-NIL.true)
+unfolding lookup_body context_row steps stated
+returns-then-cell-eq-NIL t c = rw (law.lookup_in _ _ _ _ c.if-left-eq0.false, ← c.deeper-s0.ensures, ← c.read-cell.ensures, eq-eqb _ _ c.if-cell-eq-NIL.true, c.refused-then-cell-eq-NIL.ensures)
 
-pub returns-in_default : goal.returns-in_default
-unfolding lookup_body steps
-returns-in_default t c = rw (law.lookup_in _ _ _ _ c.if-left-eq0.false, ← c.deeper-s0.ensures, ← c.read-cell.ensures, ne_eqb _ _ c.if-cell-eq-NIL.false, eq-eqb _ _ c.if-n-eq0.true, ← c.transform-q1.ensures)
-    (rw (c.in_default.is))
+pub returns-in_err-s1 : goal.returns-in_err-s1
+unfolding lookup_body context_row steps stated
+returns-in_err-s1 t c = rw (law.lookup_in _ _ _ _ c.if-left-eq0.false, ← c.deeper-s0.ensures, ← c.read-cell.ensures, ne_eqb _ _ c.if-cell-eq-NIL.false, eq-eqb _ _ c.if-n-eq0.true, law.residual _ _ c.from_residual.ensures.1)
+    (rw (← c.in_err-s1.ensures))
+
+pub returns-in_err-s : goal.returns-in_err-s
+unfolding lookup_body context_row steps stated
+returns-in_err-s t c = rw (law.lookup_in _ _ _ _ c.if-left-eq0.false, ← c.deeper-s0.ensures, ← c.read-cell.ensures, ne_eqb _ _ c.if-cell-eq-NIL.false, eq-eqb _ _ c.if-n-eq0.true, ← c.in_ok-s1.ensures)
+    (rw (← c.quote-to.ensures, ← c.cite.ensures, law.residual _ _ c.from_residual-in_err-s.ensures.1, ← c.in_err-s.ensures))
 
 pub returns-then-n-eq0 : goal.returns-then-n-eq0
-unfolding lookup_body steps
-returns-then-n-eq0 t c = rw (law.lookup_in _ _ _ _ c.if-left-eq0.false, ← c.deeper-s0.ensures, ← c.read-cell.ensures, ne_eqb _ _ c.if-cell-eq-NIL.false, eq-eqb _ _ c.if-n-eq0.true, ← c.transform-q1.ensures)
-    (rw (c.in-Pair.is, ← c.cite1-refs.ensures, ← c.context_row.ensures))
+unfolding lookup_body context_row steps stated
+returns-then-n-eq0 t c = rw (law.lookup_in _ _ _ _ c.if-left-eq0.false, ← c.deeper-s0.ensures, ← c.read-cell.ensures, ne_eqb _ _ c.if-cell-eq-NIL.false, eq-eqb _ _ c.if-n-eq0.true, ← c.in_ok-s1.ensures)
+    (rw (← c.quote-to.ensures, ← c.cite.ensures, ← c.in_ok-s.ensures))
 
-pub returns-in_default-q2 : goal.returns-in_default-q2
-unfolding lookup_body steps
-returns-in_default-q2 t c = rw (law.lookup_in _ _ _ _ c.if-left-eq0.false, ← c.deeper-s0.ensures, ← c.read-cell.ensures, ne_eqb _ _ c.if-cell-eq-NIL.false, ne_eqb _ _ c.if-n-eq0.false, ← c.lookup-q2.ensures)
-    (rw (c.in_default-q2.is))
+pub returns-in_err-s2 : goal.returns-in_err-s2
+unfolding lookup_body context_row steps stated
+returns-in_err-s2 t c = rw (law.lookup_in _ _ _ _ c.if-left-eq0.false, ← c.deeper-s0.ensures, ← c.read-cell.ensures, ne_eqb _ _ c.if-cell-eq-NIL.false, ne_eqb _ _ c.if-n-eq0.false, law.residual _ _ c.from_residual-in_err-s2.ensures.1)
+    (rw (← c.in_err-s2.ensures))
 
-pub returns-in_default-q3 : goal.returns-in_default-q3
-unfolding lookup_body steps
-returns-in_default-q3 t c = rw (law.lookup_in _ _ _ _ c.if-left-eq0.false, ← c.deeper-s0.ensures, ← c.read-cell.ensures, ne_eqb _ _ c.if-cell-eq-NIL.false, ne_eqb _ _ c.if-n-eq0.false, ← c.lookup-q2.ensures)
-    (rw (c.in-Pair-q2.is, ← c.transform-q3.ensures, c.in_default-q3.is))
+pub returns-in_err-s3 : goal.returns-in_err-s3
+unfolding lookup_body context_row steps stated
+returns-in_err-s3 t c = rw (law.lookup_in _ _ _ _ c.if-left-eq0.false, ← c.deeper-s0.ensures, ← c.read-cell.ensures, ne_eqb _ _ c.if-cell-eq-NIL.false, ne_eqb _ _ c.if-n-eq0.false, ← c.in_ok-s2.ensures)
+    (rw (law.residual _ _ c.from_residual-in_err-s3.ensures.1, ← c.in_err-s3.ensures))
+
+pub returns-in_err-s-2 : goal.returns-in_err-s-2
+unfolding lookup_body context_row steps stated
+returns-in_err-s-2 t c = rw (law.lookup_in _ _ _ _ c.if-left-eq0.false, ← c.deeper-s0.ensures, ← c.read-cell.ensures, ne_eqb _ _ c.if-cell-eq-NIL.false, ne_eqb _ _ c.if-n-eq0.false, ← c.in_ok-s2.ensures)
+    (rw (← c.in_ok-s3.ensures, ← c.quote-to-2.ensures, ← c.cite-2.ensures, law.residual _ _ c.from_residual-in_err-s-2.ensures.1, ← c.in_err-s-2.ensures))
 
 pub returns : goal.returns
-unfolding lookup_body steps
-returns t c = rw (law.lookup_in _ _ _ _ c.if-left-eq0.false, ← c.deeper-s0.ensures, ← c.read-cell.ensures, ne_eqb _ _ c.if-cell-eq-NIL.false, ne_eqb _ _ c.if-n-eq0.false, ← c.lookup-q2.ensures)
-    (rw (c.in-Pair-q2.is, ← c.transform-q3.ensures, c.in-Pair-q3.is, ← c.cite2-refs.ensures, ← c.context_row-2.ensures))
+unfolding lookup_body context_row steps stated
+returns t c = rw (law.lookup_in _ _ _ _ c.if-left-eq0.false, ← c.deeper-s0.ensures, ← c.read-cell.ensures, ne_eqb _ _ c.if-cell-eq-NIL.false, ne_eqb _ _ c.if-n-eq0.false, ← c.in_ok-s2.ensures)
+    (rw (← c.in_ok-s3.ensures, ← c.quote-to-2.ensures, ← c.cite-2.ensures, ← c.in_ok-s-2.ensures))

@@ -1,8 +1,20 @@
-use borrow.Author.Tests.{lt-ltb}
+use borrow.Author.Tests.{lt-ltb, le-ltb}
+use Rattle.producer.specs.Judgments.{emit_as, emit_words}
 use Rattle.producer.specs.Machine.{emit, known_row, known_or, new_row, add_row}
 use Rattle.producer.proofs.Steps.{steps}
 use Rattle.producer.proofs.State.emit.Goals as goal
 
 pub returns-then-n-self : goal.returns-then-n-self
-unfolding emit steps known_row known_or new_row add_row
-returns-then-n-self c = rw (← c.find_row.ensures, c.in-Nothing.is, lt-ltb _ _ c.if-n-self.true, ← c.link_row.ensures, ← c.put_row.ensures)
+unfolding emit_as emit_words emit steps known_row known_or new_row add_row
+returns-then-n-self c =
+    rw (← c.words-kind.ensures, ← c.find_row.ensures, c.in-Nothing.is, lt-ltb _ _ c.if-n-self.true, ← c.link_row.ensures, ← c.number.ensures)
+    (rw (← c.put_row.ensures))
+
+pub returns-in-At : goal.returns-in-At
+unfolding emit_as emit_words emit steps known_row known_or
+returns-in-At c = rw (← c.words-kind.ensures, ← c.find_row.ensures, c.in-At.is)
+
+pub returns-else-n-self : goal.returns-else-n-self
+unfolding emit_as emit_words emit steps known_row known_or new_row
+returns-else-n-self c =
+    rw (← c.words-kind.ensures, ← c.find_row.ensures, c.in-Nothing.is, le-ltb _ _ c.if-n-self.false, c.refused.ensures)
