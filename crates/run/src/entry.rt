@@ -11,7 +11,7 @@ use ast::words::{put, succ};
 use producer::State;
 use producer::answers::Two;
 use ran::Ran;
-use syntax::{Scanned, Size, scan_run, size_call};
+use syntax::{Unfit, Unread, scan_run, size_call};
 
 // The row of a refused call.
 const NO_ROW: u32 = 4294967295;
@@ -106,17 +106,16 @@ fn step(
 ) -> Turn
     ensures { turn_end result rows.new cells.new ≡ turned (length stack.old) bytes.now at (machine rows.old cells.old state) }
 {
-    let size = size_call(bytes, at, stack);
-    match size {
-        Size::Fits(head, _, next) => {
+    match size_call(bytes, at, stack) {
+        Ok(fitting) => {
             let s = state.begin();
             let from = low(at);
-            let q = call(s, bytes, from, head, rows, cells);
-            answered(q, next)
+            let q = call(s, bytes, from, fitting.head, rows, cells);
+            answered(q, fitting.next)
         }
-        Size::Refused(number, next) => refused(state, number, next),
-        Size::Bad(place) => refused(state, refusals::UNREAD, place),
-        Size::Short => refused(state, refusals::UNREAD, at),
+        Err(Unfit::Refused(number, next)) => refused(state, number, next),
+        Err(Unfit::Unread(Unread::Bad(place))) => refused(state, refusals::UNREAD, place),
+        Err(Unfit::Unread(Unread::Short)) => refused(state, refusals::UNREAD, at),
     }
 }
 
@@ -184,16 +183,15 @@ fn play_run(bytes: &[u8], rows: &mut [u32], cells: &mut [u32], answers: &mut [u3
     if cells.len() < 8 {
         return no_run(refusals::SLICES, 0);
     }
-    let scanned = scan_run(bytes);
-    match scanned {
-        Scanned::Refused(number, place) => no_run(number, place),
-        Scanned::Calls(limit, calls) => {
+    match scan_run(bytes) {
+        Err(refusal) => no_run(refusal.number, refusal.place),
+        Ok(scanned) => {
             let most = answers.len() / 4;
-            if most < calls {
+            if most < scanned.calls {
                 return no_run(refusals::ANSWERS, 0);
             }
-            let s = start(limit, rows.len(), cells.len());
-            let count = low(calls);
+            let s = start(scanned.limit, rows.len(), cells.len());
+            let count = low(scanned.calls);
             let mut stack = [0u8; 131073];
             let last = play(s, count, bytes, &mut stack, rows, cells, answers);
             Ran {

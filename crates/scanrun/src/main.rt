@@ -2,7 +2,7 @@
 #![tactic(auto)]
 
 use std::io;
-use syntax::{Scanned, Size};
+use syntax::{Unfit, Unread};
 
 fn text(rt: &impl Print, s: &[u8]) -> io::Result<()> {
     rt.write_all(s)
@@ -20,8 +20,14 @@ fn pair(rt: &impl Print, a: &[u8], x: usize, b: &[u8], y: usize) -> io::Result<(
 fn run(rt: &impl Print, label: &[u8], s: &[u8]) -> io::Result<()> {
     text(rt, label)?;
     match syntax::scan_run(s) {
-        Scanned::Calls(limit, calls) => pair(rt, b": limit ", limit, b", calls ", calls),
-        Scanned::Refused(number, place) => pair(rt, b": refused ", number as usize, b" at ", place),
+        Ok(scanned) => pair(rt, b": limit ", scanned.limit, b", calls ", scanned.calls),
+        Err(refusal) => pair(
+            rt,
+            b": refused ",
+            refusal.number as usize,
+            b" at ",
+            refusal.place,
+        ),
     }
 }
 
@@ -30,10 +36,16 @@ fn call(rt: &impl Print, label: &[u8], s: &[u8]) -> io::Result<()> {
     let mut stack = [0u8; 131073];
     text(rt, label)?;
     match syntax::size_call(s, 2, &mut stack) {
-        Size::Fits(_, nodes, next) => pair(rt, b": nodes ", nodes, b", next ", next),
-        Size::Refused(number, next) => pair(rt, b": refused ", number as usize, b", next ", next),
-        Size::Bad(place) => pair(rt, b": bad ", place, b" of ", s.len()),
-        Size::Short => text(rt, b": no room\n"),
+        Ok(fitting) => pair(rt, b": nodes ", fitting.nodes, b", next ", fitting.next),
+        Err(Unfit::Refused(number, next)) => pair(
+            rt,
+            b": refused ",
+            number as usize,
+            b", next ",
+            next,
+        ),
+        Err(Unfit::Unread(Unread::Bad(place))) => pair(rt, b": bad ", place, b" of ", s.len()),
+        Err(Unfit::Unread(Unread::Short)) => text(rt, b": no room\n"),
     }
 }
 

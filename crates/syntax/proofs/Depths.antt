@@ -11,10 +11,10 @@ use lib.Dec.{ltb, leb}
 use lib.ListN.{length, get_or, drop, drop_of_length-le}
 use lib.Seq.{drop-cons}
 use Rattle.walk.specs.Refusal as Refusal
-use Rattle.syntax.specs.Parts.{Part, after, part, so_many, Lists, pushed, deeper}
+use Rattle.syntax.specs.Parts.{Part, after, part, so_many, Lists, pushed, deeper, Count, reached}
 use Rattle.syntax.specs.declared.parts.Parts.{Parts}
-use Rattle.syntax.specs.declared.limits.Counted.{Counted}
-use Rattle.syntax.specs.declared.limits.Counted.TheVariants.{Nodes, Refused, Bad}
+use Rattle.std.specs.Prelude.{Err}
+use Rattle.syntax.specs.declared.limits.Uncounted.TheVariants.{Refused, Bad}
 use Rattle.syntax.proofs.Stack.{piled, piled_top, piled_push, over_three, up_to_three}
 use Rattle.syntax.proofs.Measure.{Deep, deep, all_at, unless, allowed, enter, measure}
 
@@ -26,7 +26,7 @@ means_deeper : (w depth : ℕ) → w ≤ 2 → means (w + 3 * depth) ≡ deep (p
 unfolding means
 means_deeper w depth h = ap₂ (λ (a b : ℕ). deep (part a) b) (omega arith) (omega arith)
 
-pub turn_done : (bs words : List ℕ) (nodes at d : ℕ) → d ≤ 0 → measure bs (piled means words d) nodes at ≡ Nodes nodes at
+pub turn_done : (bs words : List ℕ) (nodes at d : ℕ) → d ≤ 0 → measure bs (piled means words d) nodes at ≡ reached nodes at
 unfolding piled measure
 turn_done [] words nodes at zero h = refl
 turn_done (b ∷ bs) words nodes at zero h = refl
@@ -41,14 +41,14 @@ deeper_many (suc (suc (suc zero))) x y z depth new e = ap {B = Option (List Deep
 deeper_many (suc (suc (suc (suc n)))) x y z depth new e = absurd (let z : ◌≡◌ {A = ℕ} 0 1 = cc in omega arith)
 
 -- a part that is no number
-enter_node : (w depth b n at : ℕ) (f : List Deep → ℕ → Counted) → (w ≡ 0 → ⊥) → enter (part w) depth b n at f ≡ unless (ltb 32 depth || leb 10000 n) 6 (allowed (after (part w) b) at (λ new. f (all_at (depth + 1) new) (n + 1)))
+enter_node : (w depth b n at : ℕ) (f : List Deep → ℕ → Count) → (w ≡ 0 → ⊥) → enter (part w) depth b n at f ≡ unless (ltb 32 depth || leb 10000 n) 6 (allowed (after (part w) b) at (λ new. f (all_at (depth + 1) new) (n + 1)))
 unfolding part enter
 enter_node zero depth b n at f h = absurd (h refl)
 enter_node (suc zero) depth b n at f h = refl
 enter_node (suc (suc w)) depth b n at f h = refl
 
 module _ (bytes words : List ℕ) (nodes at d : ℕ) (h : 0 < d) where
-  pub turn_end : length bytes ≤ at → measure (drop at bytes) (piled means words d) nodes at ≡ Bad at
+  pub turn_end : length bytes ≤ at → measure (drop at bytes) (piled means words d) nodes at ≡ Err (Bad at)
   unfolding measure means
   turn_end l = rw (drop_of_length-le bytes l, piled_top means words d h)
 
@@ -57,7 +57,7 @@ module _ (bytes words : List ℕ) (nodes at d : ℕ) (h : 0 < d) where
     unfolding measure means
     turn = rw (drop-cons bytes at 0 l, piled_top means words d h)
 
-    pub turn_index_over : get_or words (d - 1) 0 % 3 ≡ 0 → 32 < get_or bytes at 0 → measure (drop at bytes) (piled means words d) nodes at ≡ Refused Refusal.index
+    pub turn_index_over : get_or words (d - 1) 0 % 3 ≡ 0 → 32 < get_or bytes at 0 → measure (drop at bytes) (piled means words d) nodes at ≡ Err (Refused Refusal.index)
     unfolding enter unless part
     turn_index_over z k = turn ∙ rw (z, lt-ltb 32 (get_or bytes at 0) k)
 
@@ -66,12 +66,12 @@ module _ (bytes words : List ℕ) (nodes at d : ℕ) (h : 0 < d) where
     turn_index z k = turn ∙ rw (z, le-ltb 32 (get_or bytes at 0) k, add-one at)
 
     module _ (z : get_or words (d - 1) 0 % 3 ≡ 0 → ⊥) where
-      pub turn_over : (ltb 32 (get_or words (d - 1) 0 / 3) || leb 10000 nodes) ≡ true → measure (drop at bytes) (piled means words d) nodes at ≡ Refused Refusal.size
+      pub turn_over : (ltb 32 (get_or words (d - 1) 0 / 3) || leb 10000 nodes) ≡ true → measure (drop at bytes) (piled means words d) nodes at ≡ Err (Refused Refusal.size)
       unfolding unless
       turn_over t = turn ∙ enter_node _ _ _ _ _ _ z ∙ rw t
 
       module _ (t : (ltb 32 (get_or words (d - 1) 0 / 3) || leb 10000 nodes) ≡ false) (p : Parts) (e : Lists (after (part (get_or words (d - 1) 0 % 3)) (get_or bytes at 0)) p) where
-        pub turn_bad : 3 < p.n → measure (drop at bytes) (piled means words d) nodes at ≡ Bad at
+        pub turn_bad : 3 < p.n → measure (drop at bytes) (piled means words d) nodes at ≡ Err (Bad at)
         unfolding unless allowed
         turn_bad k = turn ∙ enter_node _ _ _ _ _ _ z ∙ rw (t, ← e.same, over_three p.n (part p.low) (part p.mid) (part p.top) k)
 

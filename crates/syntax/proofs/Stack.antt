@@ -10,7 +10,8 @@ use lib.ListN.{length, get_or, set, length-set, drop, drop_of_length-le}
 use lib.Seq.{get_or-set_same, get_or-set_other, drop-cons}
 use Rattle.syntax.specs.Parts.{after, part, so_many, Lists, pushed}
 use Rattle.syntax.specs.declared.parts.Parts.{Parts}
-use Rattle.syntax.specs.declared.scan.Next.TheVariants.{Past, Bad}
+use Rattle.std.specs.Prelude.{Result, Ok, Err}
+use Rattle.syntax.specs.declared.scan.Unread.TheVariants.{Bad}
 use Rattle.syntax.proofs.Over.{opened, over}
 
 -- The first so many words, the last of them first, each as what it stands for.
@@ -86,19 +87,19 @@ module _ {X : Type 0} where
   up_to_three (suc (suc (suc (suc n)))) low mid top h = absurd (let z : ⊥ = omega arith in z)
 
 -- A turn: nothing is left to be read; the run ends; the byte may not stand here; it may.
-pub turn_done : (bs words : List ℕ) (at d : ℕ) → d ≤ 0 → over bs (piled part words d) at ≡ Past at
+pub turn_done : (bs words : List ℕ) (at d : ℕ) → d ≤ 0 → over bs (piled part words d) at ≡ Ok at
 unfolding piled over
 turn_done [] words at zero h = refl
 turn_done (b ∷ bs) words at zero h = refl
 turn_done bs words at (suc d) h = absurd (let z : ⊥ = omega arith in z)
 
 module _ (bytes words : List ℕ) (at d : ℕ) (h : 0 < d) where
-  pub turn_end : length bytes ≤ at → over (drop at bytes) (piled part words d) at ≡ Bad at
+  pub turn_end : length bytes ≤ at → over (drop at bytes) (piled part words d) at ≡ Err (Bad at)
   unfolding over
   turn_end l = rw (drop_of_length-le bytes l, piled_top part words d h)
 
   module _ (l : at < length bytes) (p : Parts) (e : Lists (after (part (get_or words (d - 1) 0)) (get_or bytes at 0)) p) where
-    pub turn_bad : 3 < p.n → over (drop at bytes) (piled part words d) at ≡ Bad at
+    pub turn_bad : 3 < p.n → over (drop at bytes) (piled part words d) at ≡ Err (Bad at)
     unfolding over opened
     turn_bad k = rw (drop-cons bytes at 0 l, piled_top part words d h, ← e.same, over_three p.n (part p.low) (part p.mid) (part p.top) k)
 

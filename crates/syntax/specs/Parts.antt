@@ -1,16 +1,13 @@
 -- What a byte of a term leaves to be read: the parts of a node, which go onto a stack.
-use Rattle.std.specs.Prelude.{ℕ, ◌+◌, ◌*◌, ◌≤◌, ◌≡◌, List, [], ◌∷◌, get_or, set}
+use Rattle.std.specs.Prelude.{ℕ, ◌+◌, ◌*◌, ◌≤◌, ◌≡◌, List, [], ◌∷◌, get_or, set, Result, Ok, Err}
 use Rattle.std.proofs.Math.Option.{Option, none, some}
 use Rattle.walk.specs.Refusal as Refusal
 use Rattle.walk.specs.Reader.{Read, got, bad, Kind, k_u, k_v, k_nat, k_zero, k_pi, k_lam, k_app, k_path, k_plam, k_papp, k_sigma, k_pair, k_fst, k_snd, IKind, k_0, k_1, k_dim, k_neg, k_meet, k_join, kinds, ikinds}
 use Rattle.walk.specs.Limits.{Sized, fits, scope_over, size_over, index_over}
 use Rattle.syntax.specs.declared.parts.Parts.{Parts}
-use Rattle.syntax.specs.declared.scan.Next.{Next}
-use Rattle.syntax.specs.declared.scan.Next.TheVariants.{Past, Bad as NoNext, Short}
 use Rattle.syntax.specs.declared.limits.Counted.{Counted}
-use Rattle.syntax.specs.declared.limits.Counted.TheVariants.{Nodes, Refused, Bad}
-use Rattle.syntax.specs.declared.limits.Size.{Size}
-use Rattle.syntax.specs.declared.limits.Size.TheVariants.{Refused as RefusedCall, Bad as NoCall, Short as NoRoom}
+use Rattle.syntax.specs.declared.limits.Uncounted.{Uncounted}
+use Rattle.syntax.specs.declared.limits.Uncounted.TheVariants.{Refused, Bad}
 
 -- A part is the number of u, v or dim, or a term, or an interval.
 pub data Part : Type 0 where
@@ -100,22 +97,23 @@ abbrev pub deeper : Parts → ℕ → Parts
 deeper p depth = record { n = p.n; low = p.low + 3 * depth; mid = p.mid + 3 * depth; top = p.top + 3 * depth }
 
 -- What that pass answers. Bytes that are no term have a fault, and a limit may be passed before it.
-unfoldable pub counted : Sized → ℕ → Counted
-counted (fits nodes) next = Nodes nodes next
-counted scope_over next = Refused Refusal.scope
-counted size_over next = Refused Refusal.size
-counted index_over next = Refused Refusal.index
+abbrev pub Count : Type 0
+Count = Result Counted Uncounted
 
-abbrev pub Faults : ℕ → Counted → Type 0
-Faults place (Nodes n at) = ⊥
-Faults place (Refused number) = Unit {0}
-Faults place (Bad at) = at ≡ place
+abbrev pub reached : ℕ → ℕ → Count
+reached nodes next = Ok (record { nodes = nodes; next = next })
 
-abbrev pub Counts : {A : Type 0} → (A → Sized) → Read A → Counted → Type 0
+unfoldable pub counted : Sized → ℕ → Count
+counted (fits nodes) next = reached nodes next
+counted scope_over next = Err (Refused Refusal.scope)
+counted size_over next = Err (Refused Refusal.size)
+counted index_over next = Err (Refused Refusal.index)
+
+abbrev pub Faults : ℕ → Count → Type 0
+Faults place (Ok counted) = ⊥
+Faults place (Err (Refused number)) = Unit {0}
+Faults place (Err (Bad at)) = at ≡ place
+
+abbrev pub Counts : {A : Type 0} → (A → Sized) → Read A → Count → Type 0
 Counts size (got a rest next) r = r ≡ counted (size a) next
 Counts size (bad place) r = Faults place r
-
-unfoldable pub refused_size : ℕ → Next → Size
-refused_size number (Past end) = RefusedCall number end
-refused_size number (NoNext place) = NoCall place
-refused_size number Short = NoRoom

@@ -4,7 +4,7 @@ ghost use Rattle.std.proofs.lemmas.List.Edits.{sets};
 ghost use Rattle.syntax.specs.Codes.{call_codes, Readable};
 
 use super::cursor::past_at;
-use super::scan::{Next, Scanned, scan_run};
+use super::scan::scan_run;
 
 // Stores a code, where there is room.
 fn put_code(codes: &mut [u8], i: usize, code: u8)
@@ -25,11 +25,10 @@ fn put_codes(s: &[u8], codes: &mut [u8])
     let mut i: usize = 0;
     while at < s.len() {
         put_code(codes, i, s[at]);
-        let next = past_at(s, at, &mut stack);
-        let Next::Past(p) = next else {
+        let Ok(next) = past_at(s, at, &mut stack) else {
             return;
         };
-        at = p;
+        at = next;
         i = i + 1;
     }
 }
@@ -38,9 +37,7 @@ fn put_codes(s: &[u8], codes: &mut [u8])
 pub fn call_codes(s: &[u8], codes: &mut [u8])
     ensures { codes.new ≡ sets codes.old 0 (call_codes s.now) }
 {
-    let scanned = scan_run(s);
-    let Scanned::Calls(_, _) = scanned else {
-        return;
-    };
-    put_codes(s, codes);
+    if scan_run(s).is_ok() {
+        put_codes(s, codes);
+    }
 }
