@@ -10,7 +10,7 @@ use ast::kinds::NIL;
 use ast::words::succ;
 use producer::State;
 use producer::answers::{Got, Two};
-use syntax::{CallHead, calls};
+use syntax::{CallHead, Code};
 
 // The row and the result of the call at `at`, which has this head, or its refusal. A result that is a term is the lowest cell with
 // its quote.
@@ -76,13 +76,13 @@ pub fn enter(
     at: u32,
     rows: &mut [u32],
     cells: &mut [u32],
-    code: u8,
+    code: Code,
     d: u32,
     g: u32,
 ) -> Two
     ensures { end_2 result rows.new cells.new ≡ by_code left bytes.now at code d g (machine rows.old cells.old state) }
 {
-    if code == calls::CONTEXT {
+    if let Code::Context = code {
         return match state.ctx(left, rows, cells, d, g) {
             Got::Is(s, row) => Two::Pair(s, row, 0),
             Got::Refused(s, e) => Two::Refused(s, e),
@@ -93,13 +93,13 @@ pub fn enter(
         return q;
     };
     match code {
-        calls::UNIVERSE => {
+        Code::Universe => {
             return match s1.universe(left, rows, cells, d, g, t) {
                 Two::Pair(s, level, row) => Two::Pair(s, row, level),
                 Two::Refused(s, e) => Two::Refused(s, e),
             };
         }
-        calls::INFER => {
+        Code::Infer => {
             return match s1.infer(left, rows, cells, d, g, t) {
                 Two::Pair(s, ty, row) => Two::Pair(s, row, quote(cells, ty)),
                 Two::Refused(s, e) => Two::Refused(s, e),
@@ -119,7 +119,7 @@ pub fn enter_two(
     at: u32,
     rows: &mut [u32],
     cells: &mut [u32],
-    code: u8,
+    code: Code,
     d: u32,
     g: u32,
     t: u32,
@@ -131,13 +131,13 @@ pub fn enter_two(
         return q;
     };
     match code {
-        calls::CHECK => {
+        Code::Check => {
             return match s1.check(left, rows, cells, d, g, t, u) {
                 Got::Is(s, row) => Two::Pair(s, row, 0),
                 Got::Refused(s, e) => Two::Refused(s, e),
             };
         }
-        calls::NORMALISE => {
+        Code::Normalise => {
             return match s1.normalize(left, rows, cells, d, g, t, u) {
                 Two::Pair(s, normal, row) => Two::Pair(s, row, quote(cells, normal)),
                 Two::Refused(s, e) => Two::Refused(s, e),

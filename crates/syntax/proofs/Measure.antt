@@ -16,7 +16,6 @@ use Rattle.syntax.specs.Parts.{Part, index, term, interval, parts, iparts, of_ki
 use Rattle.syntax.specs.declared.scan.Unread.{Unread}
 use Rattle.std.specs.Prelude.{Result, Ok, Err}
 use Rattle.syntax.specs.declared.scan.Unread.TheVariants.{Bad as NoNext}
-use Rattle.syntax.specs.declared.limits.Counted.{Counted}
 use Rattle.syntax.specs.declared.limits.Uncounted.TheVariants.{Refused, Bad}
 use Rattle.syntax.proofs.Over.{opened, over, over_term}
 

@@ -7,9 +7,8 @@ use native.Mathlib.Omega.{arith}
 use native.Mathlib.Nat.{zero-add, suc-add, add-suc, add-zero}
 use native.Mathlib.Numerals.{add-one}
 use lib.ListN.{length, drop}
-use Rattle.walk.specs.Refusal as Refusal
 use Rattle.walk.specs.Reader.{Read, got, bad, read_on, ◌>>=◌, ok, Call, read_calls, read_limit, read_run}
-use Rattle.syntax.specs.Told.{call_at, fault_at, unread_at, next_of, next_in, limit_of, calls_read, refused_at, refused_unread, counted, told}
+use Rattle.syntax.specs.Told.{call_at, fault_at, unread_at, next_of, next_in, value_of, limit_of, calls_read, refused_unread, counted, told}
 use Rattle.syntax.specs.Ends.{Stops, ends, goes_call}
 use Rattle.syntax.specs.Calls.{read_more, read_none, Limited, limited}
 use Rattle.std.specs.Prelude.{Ok, Err}
@@ -71,8 +70,8 @@ unfolding read_run ◌>>=◌
 run_bad bytes fault e = go (read_limit bytes 0) e
   where
     go : (r : Read ℕ) → Err fault ≡ limit_of r → told (read_on r (λ limit. read_calls (length bytes) (length bytes) >>= λ calls. ok (limit, calls))) ≡ Err (refused_unread (unread_at fault))
-    go (got limit bs at) e = absurd (unfold limit_of in let z : ◌≡◌ {A = ℕ} 0 1 = cc in omega arith)
-    go (bad place) e = unfold limit_of read_on told in let q : fault ≡ fault_at place = cc in rw q
+    go (got limit bs at) e = absurd (unfold value_of in let z : ◌≡◌ {A = ℕ} 0 1 = cc in omega arith)
+    go (bad place) e = unfold value_of read_on told in let q : fault ≡ fault_at place = cc in rw q
 
 pub run_on : (bytes : List ℕ) (limit : ℕ) → Ok limit ≡ limit_of (read_limit bytes 0) → told (read_run bytes) ≡ counted limit 0 (read_calls (length bytes) (length bytes) (drop 2 bytes) 2)
 unfolding read_run ◌>>=◌
@@ -85,5 +84,5 @@ run_on bytes limit e = go (read_limit bytes 0) refl e
     go : (r : Read ℕ) → read_limit bytes 0 ≡ r → Ok limit ≡ limit_of r → told (read_on r (λ limit. read_calls (length bytes) (length bytes) >>= λ calls. ok (limit, calls))) ≡ counted limit 0 (read_calls (length bytes) (length bytes) (drop 2 bytes) 2)
     go (got limit' bs at) r e =
         let L : Limited bytes limit' bs at = limited bytes r in
-        unfold limit_of read_on in let q : limit' ≡ limit = cc in rw (q, L.left, L.stop) (last (read_calls (length bytes) (length bytes) (drop 2 bytes) 2))
-    go (bad place) r e = absurd (unfold limit_of in let z : ◌≡◌ {A = ℕ} 0 1 = cc in omega arith)
+        unfold value_of read_on in let q : limit' ≡ limit = cc in rw (q, L.left, L.stop) (last (read_calls (length bytes) (length bytes) (drop 2 bytes) 2))
+    go (bad place) r e = absurd (unfold value_of in let z : ◌≡◌ {A = ℕ} 0 1 = cc in omega arith)

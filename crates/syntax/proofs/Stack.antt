@@ -10,7 +10,7 @@ use lib.ListN.{length, get_or, set, length-set, drop, drop_of_length-le}
 use lib.Seq.{get_or-set_same, get_or-set_other, drop-cons}
 use Rattle.syntax.specs.Parts.{after, part, so_many, Lists, pushed}
 use Rattle.syntax.specs.declared.parts.Parts.{Parts}
-use Rattle.std.specs.Prelude.{Result, Ok, Err}
+use Rattle.std.specs.Prelude.{Ok, Err}
 use Rattle.syntax.specs.declared.scan.Unread.TheVariants.{Bad}
 use Rattle.syntax.proofs.Over.{opened, over}
 

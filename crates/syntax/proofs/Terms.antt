@@ -7,9 +7,9 @@ use native.Mathlib.Omega.{arith}
 use native.Mathlib.Nat.{zero-add, suc-add}
 use lib.ListN.{length, drop}
 use Rattle.walk.specs.Syntax.{Term}
-use Rattle.walk.specs.Reader.{Read, got, bad, read_on, ◌>>=◌, ok, terms_of, Head, Call, read_term, read_terms, read_head, read_call}
+use Rattle.walk.specs.Reader.{Read, got, bad, read_on, ◌>>=◌, ok, Code, terms_of, Head, Call, read_term, read_terms, read_head, read_call}
 use Rattle.syntax.specs.Told.{term_at, terms_at, call_at, unread_at, next_of, next_in, head_of, HeadAt, many_terms}
-use Rattle.syntax.specs.Heads.{Headed, headed, Tells, tells, tells_bad, terms_in_code}
+use Rattle.syntax.specs.Heads.{Headed, headed, Tells, tells, tells_bad, code_again}
 use Rattle.syntax.specs.declared.scan.CallHead.{CallHead}
 use Rattle.syntax.specs.declared.scan.Fault.{Fault}
 use Rattle.syntax.specs.Ends.{ends, goes_term}
@@ -115,7 +115,7 @@ module _ (bytes : List ℕ) (from : ℕ) (told : CallHead) (e : HeadAt bytes fro
   H = headed bytes from T.reads
 
   count : many_terms told ≡ T.head.size + terms_of T.head.code
-  count = ap many_terms T.is ∙ ap (λ (n : ℕ). T.head.size + n) (terms_in_code T.head.code)
+  count = ap many_terms T.is ∙ ap (λ (c : Code). T.head.size + terms_of c) (code_again T.head.code)
 
   pub inside : from + 3 ≤ length bytes
   inside = H.inside

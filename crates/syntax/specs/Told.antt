@@ -1,13 +1,15 @@
 -- What each public function answers, by the definitions of `walk`.
-use Rattle.std.specs.Prelude.{ℕ, ◌+◌, ◌*◌, ◌≡◌, List, Bool, true, false, ltb, length, get_or, drop, Result, Ok, Err}
+use Rattle.std.specs.Prelude.{ℕ, ◌+◌, ◌*◌, ◌≡◌, List, Bool, true, false, ltb, length, drop, Option as Maybe, Some, None, Result, Ok, Err}
 use Rattle.std.proofs.Math.Option.{Option, none, some}
 use Rattle.walk.specs.Refusal as Refusal
 use Rattle.walk.specs.Syntax.{Term}
-use Rattle.walk.specs.Reader.{Read, got, bad, Code, c_context, c_universe, c_infer, c_check, c_normalise, c_equal, codes, terms_of, Head, Call, read_term, read_terms, read_head, read_call, read_run}
+use Rattle.walk.specs.Reader.{Read, got, bad, Code, c_context, c_universe, c_infer, c_check, c_normalise, c_equal, terms_of, Head, Call, read_term, read_terms, read_head, read_call, read_run}
 use Rattle.walk.specs.Limits.{Sized, fits, scope_over, size_over, index_over, size_call}
 use Rattle.syntax.specs.declared.scan.Fault.{Fault}
 use Rattle.syntax.specs.declared.scan.Unread.{Unread}
 use Rattle.syntax.specs.declared.scan.Unread.TheVariants.{Bad, Short}
+use Rattle.syntax.specs.declared.calls.Code.{Code as CallCode}
+use Rattle.syntax.specs.declared.calls.Code.TheVariants.{Context, Universe, Infer, Check, Normalise, Equal}
 use Rattle.syntax.specs.declared.scan.CallHead.{CallHead}
 use Rattle.syntax.specs.declared.scan.Scanned.{Scanned}
 use Rattle.syntax.specs.declared.scan.Refusal.{Refusal as Refused}
@@ -46,6 +48,11 @@ unfoldable pub next_in : {A : Type 0} → Bool → Read A → Result ℕ Unread
 next_in true r = Err Short
 next_in false r = next_of r
 
+-- what is read, or the place of the fault
+unfoldable pub value_of : {A : Type 0} → Read A → Result A Fault
+value_of (got a rest at) = Ok a
+value_of (bad place) = Err (fault_at place)
+
 -- the head of a call
 
 abbrev pub code_number : Code → ℕ
@@ -62,8 +69,35 @@ highest_code = 5
 
 -- end of numbers of codes
 
+-- A code as the program tells it, and what the program's stands for.
+abbrev pub code_told : Code → CallCode
+-- written by tools/written.py: codes told
+code_told c_context = Context
+code_told c_universe = Universe
+code_told c_infer = Infer
+code_told c_check = Check
+code_told c_normalise = Normalise
+code_told c_equal = Equal
+
+-- end of codes told
+
+abbrev pub code_of : CallCode → Code
+-- written by tools/written.py: codes of the program
+code_of Context = c_context
+code_of Universe = c_universe
+code_of Infer = c_infer
+code_of Check = c_check
+code_of Normalise = c_normalise
+code_of Equal = c_equal
+
+-- end of codes of the program
+
+unfoldable pub code_in : Option Code → Maybe CallCode
+code_in none = None
+code_in (some code) = Some (code_told code)
+
 abbrev pub head_in : Code → ℕ → ℕ → CallHead
-head_in code dims size = record { code = code_number code; dims = dims; size = size }
+head_in code dims size = record { code = code_told code; dims = dims; size = size }
 
 unfoldable pub head_of : Read Head → Result CallHead Fault
 head_of (got head rest at) = Ok (head_in head.code head.dims head.size)
@@ -79,13 +113,12 @@ terms_in (some code) = terms_of code
 
 -- How many terms follow a head, the types of its context among them.
 abbrev pub many_terms : CallHead → ℕ
-many_terms head = head.size + terms_in (get_or codes head.code none)
+many_terms head = head.size + terms_of (code_of head.code)
 
 -- the whole run: refusals 2 and 3, or its nesting limit and the number of its calls
 
-unfoldable pub limit_of : Read ℕ → Result ℕ Fault
-limit_of (got limit rest at) = Ok limit
-limit_of (bad place) = Err (fault_at place)
+abbrev pub limit_of : Read ℕ → Result ℕ Fault
+limit_of = value_of
 
 abbrev pub calls_read : ℕ → ℕ → Result Scanned Refused
 calls_read limit calls = Ok (record { limit = limit; calls = calls })

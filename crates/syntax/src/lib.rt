@@ -8,6 +8,7 @@ pub mod limits;
 mod parts;
 pub mod scan;
 
+pub use calls::Code;
 pub use codes::call_codes;
 pub use cursor::{Reader, head_at, limit_of, past_at};
 pub use limits::{Fitting, Unfit, size_call};

@@ -2,10 +2,10 @@
 // the bytes go, so what is still to be read stands on a stack that is lent, and its contents do not matter.
 ghost use Rattle.std.specs.Prelude.{◌≡◌, ◌≤◌, length, drop, get_or};
 ghost use Rattle.std.proofs.Math.Option.{none};
-ghost use Rattle.walk.specs.Reader.{codes, read_head as walk_head, read_limit as walk_limit, read_calls};
-ghost use Rattle.syntax.specs.Told.{term_at, terms_at, call_at, short, next_in, head_of, terms_in, many_terms, limit_of, counted, scanned, unread_at, refused_unread};
+ghost use Rattle.walk.specs.Reader.{codes, byte, read_head as walk_head, read_limit as walk_limit, read_calls};
+ghost use Rattle.syntax.specs.Told.{term_at, terms_at, call_at, short, next_in, head_of, terms_in, many_terms, limit_of, counted, scanned, unread_at, refused_unread, value_of};
 
-use super::calls;
+use super::calls::Code;
 use super::cursor::{head_at, limit_of, past_at};
 use super::parts::{TERM, parts_after, push};
 use ast::refusals;
@@ -34,7 +34,7 @@ impl From<Fault> for Unread {
 // A call's first three bytes: its code, its dimension count and the length of its context.
 #[derive(Clone, Copy, Debug, PartialEq, Eq)]
 pub struct CallHead {
-    pub code: u8,
+    pub code: Code,
     pub dims: u8,
     pub size: u8,
 }
@@ -127,21 +127,13 @@ pub(crate) fn skip_terms(
     Ok(at)
 }
 
-// How many terms follow the context of a call with this code.
-#[tactic(auto, unfolding(crate::specs::Told::terms_in))]
+// How many terms follow the context of a call with this code: none where no call has it.
 pub fn terms_of(code: u8) -> usize
     ensures { result ≡ terms_in (get_or codes code none) }
 {
-    match code {
-        // written by tools/written.py: terms of a call
-        calls::CONTEXT => 0,
-        calls::UNIVERSE => 1,
-        calls::INFER => 1,
-        calls::CHECK => 2,
-        calls::NORMALISE => 2,
-        calls::EQUAL => 3,
-        // end of terms of a call
-        _ => 0,
+    match Code::of(code) {
+        Some(code) => code.terms(),
+        None => 0,
     }
 }
 
@@ -149,33 +141,30 @@ pub fn terms_of(code: u8) -> usize
 pub(crate) fn terms_after(head: CallHead) -> usize
     ensures { result ≡ many_terms head }
 {
-    usize::from(head.size) + terms_of(head.code)
+    usize::from(head.size) + head.code.terms()
+}
+
+// The byte at an offset.
+fn byte_at(s: &[u8], at: usize) -> Result<u8, Fault>
+    ensures { result ≡ value_of (byte (drop at s.now) at) }
+{
+    if s.len() <= at {
+        return Err(Fault { place: at });
+    }
+    Ok(s[at])
 }
 
 // The head of the call at an offset: what a `Reader` reads.
 pub fn read_head(s: &[u8], from: usize) -> Result<CallHead, Fault>
     ensures { result ≡ head_of (walk_head (drop from s.now) from) }
 {
-    if s.len() <= from {
+    let first = byte_at(s, from)?;
+    let Some(code) = Code::of(first) else {
         return Err(Fault { place: from });
-    }
-    let code = s[from];
-    if calls::HIGHEST < code {
-        return Err(Fault { place: from });
-    }
-    let second = from + 1;
-    if s.len() <= second {
-        return Err(Fault { place: second });
-    }
-    let third = second + 1;
-    if s.len() <= third {
-        return Err(Fault { place: third });
-    }
-    Ok(CallHead {
-        code,
-        dims: s[second],
-        size: s[third],
-    })
+    };
+    let dims = byte_at(s, from + 1)?;
+    let size = byte_at(s, from + 2)?;
+    Ok(CallHead { code, dims, size })
 }
 
 // One call from an offset on.
@@ -192,13 +181,9 @@ pub fn skip_call(s: &[u8], from: usize, stack: &mut [u8]) -> Result<usize, Unrea
 pub fn read_limit(s: &[u8]) -> Result<usize, Fault>
     ensures { result ≡ limit_of (walk_limit s.now 0) }
 {
-    if s.len() < 1 {
-        return Err(Fault { place: 0 });
-    }
-    if s.len() < 2 {
-        return Err(Fault { place: 1 });
-    }
-    let limit = usize::from(s[0]) + 256 * usize::from(s[1]);
+    let low = byte_at(s, 0)?;
+    let high = byte_at(s, 1)?;
+    let limit = usize::from(low) + 256 * usize::from(high);
     if limit < 1 {
         return Err(Fault { place: 0 });
     }
