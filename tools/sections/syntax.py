@@ -144,9 +144,8 @@ for_both(FUEL, 'an %s that fits', fits)
 # ---- parts.rt: the same as a match on the byte
 
 SOURCE = 'crates/syntax/src/parts.rt'
-MAKES = ['none', 'one', 'two', 'three']
 for_both(SOURCE, 'parts of an %s',
-         lambda k, sort: '%d => %s(%s),' % (k.byte, MAKES[len(k.parts)], ', '.join(PART[p.sort].upper() for p in k.parts)))
+         lambda k, sort: '%d => Some(&[%s]),' % (k.byte, ', '.join('Part::' + PART[p.sort].capitalize() for p in k.parts)))
 
 
 # ---- calls.rt: the codes of calls. Told, Heads: the number of each, and that it stands there in the reader's table

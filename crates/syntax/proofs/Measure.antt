@@ -14,7 +14,7 @@ use Rattle.walk.specs.Reader.{Read, got, bad, Reader, read_on, ◌>>=◌, ok, by
 use Rattle.walk.specs.Limits.{Sized, fits, scope_over, size_over, index_over, size_on, node, size_interval, size_term}
 use Rattle.syntax.specs.Parts.{Part, index, term, interval, parts, iparts, of_kind, after, Count, reached, counted, Faults, Counts}
 use Rattle.syntax.specs.declared.scan.Unread.{Unread}
-use Rattle.std.specs.Prelude.{Result, Ok, Err}
+use Rattle.std.specs.Prelude.{map, Result, Ok, Err}
 use Rattle.syntax.specs.declared.scan.Unread.TheVariants.{Bad as NoNext}
 use Rattle.syntax.specs.declared.limits.Uncounted.TheVariants.{Refused, Bad}
 use Rattle.syntax.proofs.Over.{opened, over, over_term}
@@ -23,8 +23,7 @@ pub data Deep : Type 0 where
   deep : Part → ℕ → Deep
 
 abbrev pub all_at : ℕ → List Part → List Deep
-all_at depth [] = []
-all_at depth (p ∷ ps) = deep p depth ∷ all_at depth ps
+all_at depth ps = map (λ p. deep p depth) ps
 
 unfoldable pub unless : Bool → ℕ → Count → Count
 unless true number c = Err (Refused number)

@@ -6,7 +6,7 @@ ghost use Rattle.syntax.specs.Parts.{Counts};
 ghost use Rattle.syntax.specs.declared.limits.Unfit.TheVariants.{Unread as NotRead};
 
 use super::cursor::{head_at, past_at};
-use super::parts::{INDEX, TERM, deeper, parts_after, push};
+use super::parts::{Due, Part, push};
 use super::scan::{CallHead, Fault, Unread, terms_after};
 use ast::refusals;
 
@@ -70,7 +70,7 @@ fn size_term(s: &[u8], from: usize, before: usize, stack: &mut [u8]) -> Result<C
     requires { 2 * length s.now + 1 ≤ length stack.old }
     ensures { Counts (λ t. walk_size t 0 before) (term_at s.now from) result }
 {
-    stack[0] = TERM;
+    stack[0] = Part::Term.word(0);
     let mut height: usize = 1;
     let mut at = from;
     let mut nodes = before;
@@ -79,26 +79,22 @@ fn size_term(s: &[u8], from: usize, before: usize, stack: &mut [u8]) -> Result<C
             return Err(Uncounted::Bad(at));
         }
         let top = height - 1;
-        let word = stack[top];
+        let due = Due::of(stack[top]);
         let b = s[at];
-        let part = word % 3;
-        let depth = word / 3;
-        if part == INDEX {
+        if let Part::Index = due.part {
             if 32 < b {
                 return Err(Uncounted::Refused(refusals::INDEX));
             }
             height = top;
             at = at + 1;
         } else {
-            if limits(depth, nodes) {
+            if limits(due.depth, nodes) {
                 return Err(Uncounted::Refused(refusals::SIZE));
             }
-            let p = parts_after(part, b);
-            let n = p.n;
-            if 3 < n {
+            let Some(parts) = due.part.after(b) else {
                 return Err(Uncounted::Bad(at));
-            }
-            height = push(stack, top, deeper(p, depth + 1));
+            };
+            height = push(stack, top, parts, due.depth + 1);
             nodes = nodes + 1;
             at = at + 1;
         }

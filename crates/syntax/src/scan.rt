@@ -7,7 +7,7 @@ ghost use Rattle.syntax.specs.Told.{term_at, terms_at, call_at, short, next_in, 
 
 use super::calls::Code;
 use super::cursor::{head_at, limit_of, past_at};
-use super::parts::{TERM, parts_after, push};
+use super::parts::{Part, push};
 use ast::refusals;
 
 // Where a run cannot be read: the leftmost byte that may not stand there, or the run's end.
@@ -89,7 +89,7 @@ pub fn skip_term(s: &[u8], from: usize, stack: &mut [u8]) -> Result<usize, Unrea
     if stack.len() < 2 * s.len() + 1 {
         return Err(Unread::Short);
     }
-    stack[0] = TERM;
+    stack[0] = Part::Term.word(0);
     let mut height: usize = 1;
     let mut at = from;
     while 0 < height {
@@ -97,12 +97,11 @@ pub fn skip_term(s: &[u8], from: usize, stack: &mut [u8]) -> Result<usize, Unrea
             return Err(Unread::Bad(at));
         }
         let top = height - 1;
-        let p = parts_after(stack[top], s[at]);
-        let n = p.n;
-        if 3 < n {
+        let due = Part::of(stack[top]);
+        let Some(parts) = due.after(s[at]) else {
             return Err(Unread::Bad(at));
-        }
-        height = push(stack, top, p);
+        };
+        height = push(stack, top, parts, 0);
         at = at + 1;
     }
     Ok(at)
