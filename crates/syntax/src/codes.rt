@@ -1,5 +1,5 @@
 // The codes of a run's calls, for what shows their answers.
-ghost use Rattle.std.specs.Prelude.{◌≡◌, set};
+ghost use Rattle.std.specs.Prelude.{◌≡◌, length, set};
 ghost use Rattle.std.proofs.lemmas.List.Edits.{sets};
 ghost use Rattle.syntax.specs.Codes.{call_codes, Readable};
 
@@ -15,21 +15,19 @@ fn put_code(codes: &mut [u8], i: usize, code: u8)
     }
 }
 
-// Stores each call's code, as far as there is room, of a run that was read: no call of it is bad, and the stack has room.
-fn put_codes(s: &[u8], codes: &mut [u8])
-    requires { Readable s.now }
+// Stores each call's code, as far as there is room, of a run of so many calls that was read: none of them is bad, and the stack has room.
+fn put_codes(s: &[u8], calls: usize, codes: &mut [u8])
+    requires { (run : Readable s.now) × (length run.calls ≡ calls) }
     ensures { codes.new ≡ sets codes.old 0 (call_codes s.now) }
 {
     let mut stack = [0u8; 131073];
     let mut at: usize = 2;
-    let mut i: usize = 0;
-    while at < s.len() {
+    for i in 0..calls {
         put_code(codes, i, s[at]);
         let Ok(next) = past_at(s, at, &mut stack) else {
             return;
         };
         at = next;
-        i = i + 1;
     }
 }
 
@@ -37,7 +35,7 @@ fn put_codes(s: &[u8], codes: &mut [u8])
 pub fn call_codes(s: &[u8], codes: &mut [u8])
     ensures { codes.new ≡ sets codes.old 0 (call_codes s.now) }
 {
-    if scan_run(s).is_ok() {
-        put_codes(s, codes);
+    if let Ok(scanned) = scan_run(s) {
+        put_codes(s, scanned.calls, codes);
     }
 }
