@@ -32,6 +32,7 @@ fn put_codes(s: &[u8], calls: usize, codes: &mut [u8])
 }
 
 // Stores each call's code, as far as there is room, and leaves the bytes past them. Of a run that is refused with 2 or 3 none is stored.
+#[tactic(auto, using(crate::proofs::Coded::not_read))]
 pub fn call_codes(s: &[u8], codes: &mut [u8])
     ensures { codes.new ≡ sets codes.old 0 (call_codes s.now) }
 {

@@ -118,6 +118,7 @@ fn size_terms(s: &[u8], from: usize, count: usize, stack: &mut [u8]) -> Result<C
 }
 
 // The call at an offset, whose head was read: its dimension count and context length, then its terms.
+#[tactic(auto, using(crate::proofs::Counts::dims_over, crate::proofs::Counts::size_over_33, crate::proofs::Counts::within))]
 fn count_call(s: &[u8], from: usize, head: CallHead, stack: &mut [u8]) -> Result<Counted, Uncounted>
     requires { (2 * length s.now + 1 ≤ length stack.old) × HeadAt s.now from head }
     ensures { Counts walk_call (call_at s.now from) result }
@@ -133,6 +134,7 @@ fn count_call(s: &[u8], from: usize, head: CallHead, stack: &mut [u8]) -> Result
 
 // The call at an offset, whose head was read. One within the limits is passed over once: only where one is refused, its end is still to
 // be found.
+#[tactic(auto, using(crate::proofs::Counts::size_bad))]
 fn size_headed(s: &[u8], from: usize, head: CallHead, stack: &mut [u8]) -> Result<Fitting, Unfit>
     requires { (2 * length s.now + 1 ≤ length stack.old) × HeadAt s.now from head }
     ensures { result ≡ size_of (call_at s.now from) }
@@ -152,6 +154,7 @@ fn size_headed(s: &[u8], from: usize, head: CallHead, stack: &mut [u8]) -> Resul
 }
 
 // The call at an offset.
+#[tactic(auto, unfolding(crate::specs::Told::size_in), using(crate::proofs::Counts::size_none))]
 pub fn size_call(s: &[u8], from: usize, stack: &mut [u8]) -> Result<Fitting, Unfit>
     ensures { result ≡ size_in (short stack.old s.now) (call_at s.now from) }
 {

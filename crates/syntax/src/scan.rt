@@ -83,6 +83,7 @@ impl From<Unread> for Refusal {
 }
 
 // One term from an offset on. A word of the stack is a part.
+#[tactic(auto, unfolding(crate::specs::Told::next_in))]
 pub fn skip_term(s: &[u8], from: usize, stack: &mut [u8]) -> Result<usize, Unread>
     ensures { result ≡ next_in (short stack.old s.now) (term_at s.now from) }
 {
@@ -108,6 +109,7 @@ pub fn skip_term(s: &[u8], from: usize, stack: &mut [u8]) -> Result<usize, Unrea
 }
 
 // So many terms, one after the other.
+#[tactic(auto, unfolding(crate::specs::Told::next_in), using(crate::proofs::Terms::terms_on, crate::proofs::Terms::terms_done))]
 pub(crate) fn skip_terms(
     s: &[u8],
     from: usize,
@@ -127,6 +129,7 @@ pub(crate) fn skip_terms(
 }
 
 // How many terms follow the context of a call with this code: none where no call has it.
+#[tactic(auto, unfolding(crate::specs::Told::terms_in), using(crate::proofs::Bytes::terms_told, crate::proofs::Bytes::no_code_found))]
 pub fn terms_of(code: u8) -> usize
     ensures { result ≡ terms_in (get_or codes code none) }
 {
@@ -144,6 +147,7 @@ pub(crate) fn terms_after(head: CallHead) -> usize
 }
 
 // The byte at an offset.
+#[tactic(auto, using(crate::proofs::Bytes::byte_here, crate::proofs::Bytes::no_byte))]
 fn byte_at(s: &[u8], at: usize) -> Result<u8, Fault>
     ensures { result ≡ value_of (byte (drop at s.now) at) }
 {
@@ -154,6 +158,7 @@ fn byte_at(s: &[u8], at: usize) -> Result<u8, Fault>
 }
 
 // The head of the call at an offset: what a `Reader` reads.
+#[tactic(auto, unfolding(crate::specs::Told::head_of), using(crate::specs::Heads::head_none, crate::proofs::Bytes::found, crate::proofs::Bytes::missed))]
 pub fn read_head(s: &[u8], from: usize) -> Result<CallHead, Fault>
     ensures { result ≡ head_of (walk_head (drop from s.now) from) }
 {
@@ -167,6 +172,7 @@ pub fn read_head(s: &[u8], from: usize) -> Result<CallHead, Fault>
 }
 
 // One call from an offset on.
+#[tactic(auto, unfolding(crate::specs::Told::next_in), using(crate::proofs::Terms::call_no_head, crate::proofs::Terms::call_on, crate::proofs::Terms::same_in))]
 pub fn skip_call(s: &[u8], from: usize, stack: &mut [u8]) -> Result<usize, Unread>
     ensures { result ≡ next_in (short stack.old s.now) (call_at s.now from) }
 {
@@ -193,6 +199,7 @@ pub fn read_limit(s: &[u8]) -> Result<usize, Fault>
 }
 
 // The calls after the nesting limit. Two bytes of stack for each byte of the longest run, and one more.
+#[tactic(auto, using(crate::proofs::Runs::past_call, crate::proofs::Runs::calls_bad, crate::proofs::Runs::calls_done, crate::proofs::Runs::room))]
 fn count_calls(s: &[u8], limit: usize) -> Result<Scanned, Refusal>
     requires { length s.now ≤ 65536 }
     ensures { result ≡ counted limit 0 (read_calls (length s.now) (length s.now) (drop 2 s.now) 2) }
@@ -208,6 +215,7 @@ fn count_calls(s: &[u8], limit: usize) -> Result<Scanned, Refusal>
 }
 
 // A whole run: refusals 2 and 3, or its limit and the number of its calls.
+#[tactic(auto, unfolding(crate::specs::Told::unless_long), using(crate::proofs::Runs::run_bad, crate::proofs::Runs::run_on))]
 pub fn scan_run(s: &[u8]) -> Result<Scanned, Refusal>
     ensures { result ≡ scanned s.now }
 {

@@ -2,25 +2,15 @@
 use Rattle.std.proofs.Common.{◌≡◌, ◌+◌, arith}
 use Rattle.std.proofs.lemmas.Result.{err_from_is_err_and}
 use Rattle.syntax.specs.Told.{head_of}
-use Rattle.syntax.specs.Heads.{head_none, head_not_code, head_no_dims, head_no_size}
+use Rattle.syntax.specs.Heads.{head_not_code, head_no_dims, head_no_size}
 use Rattle.syntax.proofs.Bytes.{found, missed, code_here, no_code_here, head_here}
 use Rattle.syntax.proofs.scan.read_head.Goals as goal
-
-pub returns-in_err-first : goal.returns-in_err-first
-unfolding head_of
-returns-in_err-first c =
-    let p = err_from_is_err_and c.from_residual.result c.from_residual.ensures.1 in
-    let m = missed c.args.s.now c.args.from _ c.in_err-first.ensures in
-    rw (p.1, p.2, m.1, head_none c.args.s.now c.args.from m.0)
 
 pub returns-in_default : goal.returns-in_default
 unfolding head_of
 returns-in_default c =
     let n = no_code_here c.args.s.now c.args.from _ _ c.in_ok-first.ensures c.in_default.not-Some c.of.ensures in
     rw (head_not_code c.args.s.now c.args.from n.0 n.1)
-
-pub overflow_add-from : goal.overflow_add-from
-overflow_add-from c = let f = found c.args.s.now c.args.from _ c.in_ok-first.ensures in omega (arith, f.0)
 
 pub returns-in_err-dims : goal.returns-in_err-dims
 unfolding head_of
@@ -29,9 +19,6 @@ returns-in_err-dims c =
     let k = code_here c.args.s.now c.args.from _ _ c.in_ok-first.ensures c.in-Some.ensures in
     let m = missed c.args.s.now (c.args.from + 1) _ c.in_err-dims.ensures in
     rw (p.1, p.2, m.1, head_no_dims c.args.s.now c.args.from k.means k.here k.inside m.0)
-
-pub overflow_add-from-2 : goal.overflow_add-from-2
-overflow_add-from-2 c = let d = found c.args.s.now (c.args.from + 1) _ c.in_ok-dims.ensures in omega (arith, d.0)
 
 pub returns-in_err-size : goal.returns-in_err-size
 unfolding head_of

@@ -1,13 +1,9 @@
-use Rattle.std.proofs.Common.{◌∙◌, sym, length-set, length-drop, get_or-set_same, arith, lt-ltb, le-ltb}
+use Rattle.std.proofs.Common.{◌∙◌, sym, length-set, length-drop, get_or-set_same, arith, le-ltb}
 use Rattle.syntax.specs.Parts.{term}
 use Rattle.syntax.specs.Told.{next_in}
 use Rattle.syntax.proofs.Over.{over_term}
 use Rattle.syntax.proofs.Stack.{piled, part_word, turn_done, turn_end, turn_bad, turn}
 use Rattle.syntax.proofs.scan.skip_term.Goals as goal
-
-pub returns-then-stack-s : goal.returns-then-stack-s
-unfolding next_in
-returns-then-stack-s c = simp (lt-ltb _ _ c.if-stack-s.true)
 
 pub loop-height-init : goal.loop-height-init
 unfolding piled
