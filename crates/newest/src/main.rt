@@ -2,7 +2,7 @@
 // then by the index that is made over them. A line has the table, what is asked for, and both answers.
 #![tactic(auto)]
 
-use ast::cells::{Found, put_cell};
+use ast::cells::put_cell;
 use ast::words::put;
 use producer::rows::{cite0, find_row, put_row, row_start};
 use search::index::index_rows;
@@ -94,10 +94,10 @@ fn wanted(kind: u32, a: u32, b: u32, c: u32, d: u32, e: u32) -> Wanted {
     }
 }
 
-fn print(rt: &impl Print, found: Found) -> io::Result<()> {
+fn print(rt: &impl Print, found: Option<u32>) -> io::Result<()> {
     match found {
-        Found::At(i) => rt.print(i),
-        Found::Nothing => rt.write_all(b"none"),
+        Some(i) => rt.print(i),
+        None => rt.write_all(b"none"),
     }
 }
 

@@ -5,12 +5,11 @@ use mathlib.Core.List.{List}
 use Prim.Native.Nat.{ℕ, ◌+◌, ◌*◌, ◌/◌}
 use lib.Dec.{eqb}
 use lib.ListN.{get_or}
+use Rattle.std.specs.Prelude.{Some, None}
 use Rattle.ast.specs.Words.{ifb, all_eq}
 use Rattle.ast.proofs.Laws.{fourth_first}
-use Rattle.ast.specs.Cells.{or_else}
+use Rattle.ast.specs.Cells.{Found, or_else}
 use Rattle.ast.specs.Index.{last_on, end_on, kept}
-use Rattle.ast.specs.declared.cells.Found.{Found}
-use Rattle.ast.specs.declared.cells.Found.TheVariants.{At, Nothing}
 use Rattle.producer.specs.Machine.{same_row, row_slot, quarter, row_hash, find_row, row_end}
 
 -- A row by its third argument first.
@@ -41,12 +40,12 @@ unfolding row_end
 row_end_search R n h = refl
 
 -- what was found so far comes after what is found further on
-pub or_none : (x : Found) → x ≡ or_else x Nothing
-or_none (At i) = refl
-or_none Nothing = refl
+pub or_none : (x : Found) → x ≡ or_else x None
+or_none (Some i) = refl
+or_none None = refl
 
-pub or_kept : (x l : Found) (b : Bool) (i : ℕ) → or_else (or_else x (ifb b (At i) Nothing)) l ≡ or_else x (kept b i l)
+pub or_kept : (x l : Found) (b : Bool) (i : ℕ) → or_else (or_else x (ifb b (Some i) None)) l ≡ or_else x (kept b i l)
 unfolding kept
-or_kept (At j) l b i = refl
-or_kept Nothing l true i = refl
-or_kept Nothing l false i = refl
+or_kept (Some j) l b i = refl
+or_kept None l true i = refl
+or_kept None l false i = refl

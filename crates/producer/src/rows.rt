@@ -7,7 +7,7 @@ ghost use Rattle.producer.specs.Machine.{machine, end, row_slot, quarter, row_ha
 
 use crate::answers::Got;
 use crate::{State, codes};
-use ast::cells::{Found, quote};
+use ast::cells::quote;
 use ast::index::{hash, kept, later, mix};
 use ast::refusals;
 use ast::words::{put, succ, word};
@@ -222,12 +222,21 @@ pub fn next_row(rows: &[u32], n: u32, i: u32, h: u32) -> u32
 
 // The last row below `n` that has the judgment's kind and arguments.
 #[tactic(auto, unfolding(crate::specs::Machine::find_row))]
-pub fn find_row(rows: &[u32], n: u32, kind: u32, a: u32, b: u32, c: u32, d: u32, e: u32) -> Found
+pub fn find_row(
+    rows: &[u32],
+    n: u32,
+    kind: u32,
+    a: u32,
+    b: u32,
+    c: u32,
+    d: u32,
+    e: u32,
+) -> Option<u32>
     ensures { result ≡ find_row rows.now n kind a b c d e }
 {
     let mut h = row_hash(kind, a, b, c, d, e);
     let mut i = 0u32;
-    let mut last = Found::Nothing;
+    let mut last = None;
     while i < n {
         let same = same_row(rows, i, kind, a, b, c, d, e);
         last = kept(same, i, last);
@@ -339,8 +348,8 @@ impl State {
     {
         let n = self.rows;
         match find_row(rows, n, kind, a, b, c, d, e) {
-            Found::At(i) => Got::Is(self, i),
-            Found::Nothing => {
+            Some(i) => Got::Is(self, i),
+            None => {
                 if n < self.rowroom {
                     link_row(rows, n, kind, a, b, c, d, e);
                     put_row(rows, n, rule, refs, kind, count, a, b, c, d, e);

@@ -6,7 +6,7 @@ ghost use Rattle.producer.specs.Calls.{callees};
 
 use crate::State;
 use crate::answers::{Done, Got};
-use ast::cells::{Found, find_node, link_cell, lowest, put_again, put_cell};
+use ast::cells::{find_node, link_cell, lowest, put_again, put_cell};
 use ast::{kinds, refusals};
 
 impl State {
@@ -25,8 +25,8 @@ impl State {
     {
         let n = self.cells;
         match find_node(cells, n, kind, a, b, c) {
-            Found::At(i) => Got::Is(self, i),
-            Found::Nothing => {
+            Some(i) => Got::Is(self, i),
+            None => {
                 if n < self.cellroom {
                     let quote = lowest(cells, n, kind, a, b, c);
                     link_cell(cells, n, kind, a, b, c);
@@ -55,11 +55,11 @@ impl State {
     {
         let n = self.cells;
         match find_node(cells, n, kinds::INFERENCE, d, g, t) {
-            Found::At(i) => {
+            Some(i) => {
                 put_again(cells, i, ty, row);
                 Done::Ready(self)
             }
-            Found::Nothing => {
+            None => {
                 if n < self.cellroom {
                     link_cell(cells, n, kinds::INFERENCE, d, g, t);
                     put_cell(cells, n, kinds::INFERENCE, d, g, t, ty, row, 0, 0);

@@ -9,7 +9,7 @@ use crate::answers::{Done, Four, Got, Inferred, Two, ended_got, ended_two};
 use crate::rows::{cite0, cite1, cite2, cite3, cite4, cite6, cite7, cite10, find_row};
 use crate::transforms::Op;
 use crate::{State, codes};
-use ast::cells::{Found, Recalled, Shape, read, recall, same_quote, shape_of};
+use ast::cells::{Shape, read, recall, same_quote, shape_of};
 use ast::words::{greater, succ};
 use ast::{kinds, refusals};
 
@@ -26,8 +26,8 @@ impl State {
         let s0 = self.deeper(down);
         let cell = read(cells, g);
         match find_row(rows, s0.rows, codes::IS_CTX, d, cell.quote, 0, 0, 0) {
-            Found::At(i) => Got::Is(s0, i),
-            Found::Nothing => {
+            Some(i) => Got::Is(s0, i),
+            None => {
                 if cell.kind == kinds::NIL {
                     let refs = cite0();
                     return s0.emit(
@@ -303,8 +303,8 @@ impl State {
         let down = left - 1;
         let s0 = self.deeper(down);
         match recall(cells, s0.cells, d, g, t) {
-            Recalled::Known(ty, row) => Two::Pair(s0, ty, row),
-            Recalled::Unknown => {
+            Some((ty, row)) => Two::Pair(s0, ty, row),
+            None => {
                 let q1 = s0.find(down, rows, cells, d, g, t);
                 let Inferred::Has(s1, ty, refs, rule) = q1 else {
                     return q1.as_two();

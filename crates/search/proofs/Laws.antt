@@ -8,8 +8,8 @@ use native.Mathlib.Numerals.{add-one}
 use native.Mathlib.Omega.{arith}
 use lib.ListN.{get_or, set}
 use lib.Seq.{sets}
+use Rattle.std.specs.Prelude.{Some, None}
 use Rattle.ast.specs.Cells.{last_of}
-use Rattle.ast.specs.declared.cells.Found.TheVariants.{At, Nothing}
 use Rattle.walk.specs.Rule.{kind_of}
 use Rattle.producer.specs.Machine.{link_row}
 use Rattle.search.specs.declared.plain.Wanted.{Wanted}
@@ -50,12 +50,12 @@ unfolding last_of
 last_turn t zero l e = absurd (let z : ⊥ = omega arith in z)
 last_turn t (suc i) l e = let z : suc i - 1 ≡ i = omega arith in let f : t i ≡ false = rw z at e in rw (f, z)
 
-pub last_here : (t : ℕ → Bool) (i : ℕ) → 0 < i → t (i - 1) ≡ true → last_of t i ≡ At (i - 1)
+pub last_here : (t : ℕ → Bool) (i : ℕ) → 0 < i → t (i - 1) ≡ true → last_of t i ≡ Some (i - 1)
 unfolding last_of
 last_here t zero l e = absurd (let z : ⊥ = omega arith in z)
 last_here t (suc i) l e = let z : suc i - 1 ≡ i = omega arith in let f : t i ≡ true = rw z at e in rw (f, z)
 
-pub last_none : (t : ℕ → Bool) (i : ℕ) → i ≤ 0 → last_of t i ≡ Nothing
+pub last_none : (t : ℕ → Bool) (i : ℕ) → i ≤ 0 → last_of t i ≡ None
 unfolding last_of
 last_none t zero l = refl
 last_none t (suc i) l = absurd (let z : ⊥ = omega arith in z)

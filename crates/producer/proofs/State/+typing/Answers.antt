@@ -133,27 +133,27 @@ ctx-returns-then-left-eq0 t c = rw (law.ctx_none _ _ _ _ c.if-left-eq0.true)
 
 pub ctx-returns-then-cell-eq-NIL : goal.ctx-returns-then-cell-eq-NIL
 unfolding ctx_body known_row known_or ctx_cons steps
-ctx-returns-then-cell-eq-NIL t c = rw (law.ctx_in _ _ _ _ c.if-left-eq0.false, ← c.deeper-s0.ensures, ← c.read-cell.ensures, ← c.find_row.ensures, c.in-Nothing.is, eq-eqb _ _ c.if-cell-eq-NIL.true)
+ctx-returns-then-cell-eq-NIL t c = rw (law.ctx_in _ _ _ _ c.if-left-eq0.false, ← c.deeper-s0.ensures, ← c.read-cell.ensures, ← c.find_row.ensures, c.in-None.is, eq-eqb _ _ c.if-cell-eq-NIL.true)
     (rw (← c.cite0-refs.ensures, ← c.emit.ensures))
 
 pub ctx-returns-in_default : goal.ctx-returns-in_default
 unfolding ctx_body known_row known_or ctx_cons steps
-ctx-returns-in_default t c = rw (law.ctx_in _ _ _ _ c.if-left-eq0.false, ← c.deeper-s0.ensures, ← c.read-cell.ensures, ← c.find_row.ensures, c.in-Nothing.is, ne_eqb _ _ c.if-cell-eq-NIL.false)
+ctx-returns-in_default t c = rw (law.ctx_in _ _ _ _ c.if-left-eq0.false, ← c.deeper-s0.ensures, ← c.read-cell.ensures, ← c.find_row.ensures, c.in-None.is, ne_eqb _ _ c.if-cell-eq-NIL.false)
     (rw (← c.ctx-q1.ensures, c.in_default.is))
 
 pub ctx-returns-in_default-q2 : goal.ctx-returns-in_default-q2
 unfolding ctx_body known_row known_or ctx_cons steps
-ctx-returns-in_default-q2 t c = rw (law.ctx_in _ _ _ _ c.if-left-eq0.false, ← c.deeper-s0.ensures, ← c.read-cell.ensures, ← c.find_row.ensures, c.in-Nothing.is, ne_eqb _ _ c.if-cell-eq-NIL.false)
+ctx-returns-in_default-q2 t c = rw (law.ctx_in _ _ _ _ c.if-left-eq0.false, ← c.deeper-s0.ensures, ← c.read-cell.ensures, ← c.find_row.ensures, c.in-None.is, ne_eqb _ _ c.if-cell-eq-NIL.false)
     (rw (← c.ctx-q1.ensures, c.in-Is.is, ← c.universe-q2.ensures, c.as_got.ensures, c.in_default-q2.is))
 
-pub ctx-returns-in-At : goal.ctx-returns-in-At
+pub ctx-returns-in-Some : goal.ctx-returns-in-Some
 unfolding ctx_body known_row known_or ctx_cons steps
-ctx-returns-in-At t c = rw (law.ctx_in _ _ _ _ c.if-left-eq0.false, ← c.deeper-s0.ensures, ← c.read-cell.ensures, ← c.find_row.ensures, c.in-At.is)
+ctx-returns-in-Some t c = rw (law.ctx_in _ _ _ _ c.if-left-eq0.false, ← c.deeper-s0.ensures, ← c.read-cell.ensures, ← c.find_row.ensures, c.in-Some.is)
 
 pub ctx-returns-in-Pair : goal.ctx-returns-in-Pair
 unfolding ctx_body known_row known_or ctx_cons steps
-ctx-returns-in-Pair t c = rw (law.ctx_in _ _ _ _ c.if-left-eq0.false, ← c.deeper-s0.ensures, ← c.read-cell.ensures, ← c.find_row.ensures, c.in-Nothing.is, ne_eqb _ _ c.if-cell-eq-NIL.false)
-    (rw (← c.ctx-q1.ensures, c.in-Is.is, ← c.universe-q2.ensures, c.in-Pair.is, ← c.cite2-refs.ensures, ← c.emit-in-Nothing.ensures))
+ctx-returns-in-Pair t c = rw (law.ctx_in _ _ _ _ c.if-left-eq0.false, ← c.deeper-s0.ensures, ← c.read-cell.ensures, ← c.find_row.ensures, c.in-None.is, ne_eqb _ _ c.if-cell-eq-NIL.false)
+    (rw (← c.ctx-q1.ensures, c.in-Is.is, ← c.universe-q2.ensures, c.in-Pair.is, ← c.cite2-refs.ensures, ← c.emit-in-None.ensures))
 
 pub equal-returns-then-left-eq0 : goal.equal-returns-then-left-eq0
 unfolding equal_body equal_normal steps
@@ -348,26 +348,26 @@ infer-returns-then-left-eq0 t c = rw (law.infer_none _ _ _ _ _ c.if-left-eq0.tru
 
 pub infer-returns-in_default : goal.infer-returns-in_default
 unfolding infer_body new_infer steps
-infer-returns-in_default t c = rw (law.infer_in _ _ _ _ _ c.if-left-eq0.false, ← c.deeper-s0.ensures, ← c.recall.ensures, c.in-Unknown.is, ← c.find-q1.ensures, c.as_two.ensures)
+infer-returns-in_default t c = rw (law.infer_in _ _ _ _ _ c.if-left-eq0.false, ← c.deeper-s0.ensures, ← c.recall.ensures, c.in-None.is, ← c.find-q1.ensures, c.as_two.ensures)
     (rw (c.in_default.is))
 
 pub infer-returns-in_default-q2 : goal.infer-returns-in_default-q2
 unfolding infer_body new_infer steps
-infer-returns-in_default-q2 t c = rw (law.infer_in _ _ _ _ _ c.if-left-eq0.false, ← c.deeper-s0.ensures, ← c.recall.ensures, c.in-Unknown.is, ← c.find-q1.ensures, c.in-Has.is)
+infer-returns-in_default-q2 t c = rw (law.infer_in _ _ _ _ _ c.if-left-eq0.false, ← c.deeper-s0.ensures, ← c.recall.ensures, c.in-None.is, ← c.find-q1.ensures, c.in-Has.is)
     (rw (← c.emit_has-q2.ensures, c.as_two-in_default-q2.ensures, c.in_default-q2.is))
 
 pub infer-returns-in_default-q3 : goal.infer-returns-in_default-q3
 unfolding infer_body new_infer steps
-infer-returns-in_default-q3 t c = rw (law.infer_in _ _ _ _ _ c.if-left-eq0.false, ← c.deeper-s0.ensures, ← c.recall.ensures, c.in-Unknown.is, ← c.find-q1.ensures, c.in-Has.is)
+infer-returns-in_default-q3 t c = rw (law.infer_in _ _ _ _ _ c.if-left-eq0.false, ← c.deeper-s0.ensures, ← c.recall.ensures, c.in-None.is, ← c.find-q1.ensures, c.in-Has.is)
     (rw (← c.emit_has-q2.ensures, c.in-Is.is, ← c.remember-q3.ensures, c.as_two-in_default-q3.ensures, c.in_default-q3.is))
 
-pub infer-returns-in-Known : goal.infer-returns-in-Known
+pub infer-returns-in-Some : goal.infer-returns-in-Some
 unfolding infer_body new_infer steps
-infer-returns-in-Known t c = rw (law.infer_in _ _ _ _ _ c.if-left-eq0.false, ← c.deeper-s0.ensures, ← c.recall.ensures, c.in-Known.is)
+infer-returns-in-Some t c = rw (law.infer_in _ _ _ _ _ c.if-left-eq0.false, ← c.deeper-s0.ensures, ← c.recall.ensures, c.in-Some.is)
 
 pub infer-returns-in-Ready : goal.infer-returns-in-Ready
 unfolding infer_body new_infer steps
-infer-returns-in-Ready t c = rw (law.infer_in _ _ _ _ _ c.if-left-eq0.false, ← c.deeper-s0.ensures, ← c.recall.ensures, c.in-Unknown.is, ← c.find-q1.ensures, c.in-Has.is)
+infer-returns-in-Ready t c = rw (law.infer_in _ _ _ _ _ c.if-left-eq0.false, ← c.deeper-s0.ensures, ← c.recall.ensures, c.in-None.is, ← c.find-q1.ensures, c.in-Has.is)
     (rw (← c.emit_has-q2.ensures, c.in-Is.is, ← c.remember-q3.ensures, c.in-Ready.is))
 
 pub lam-returns-in_default : goal.lam-returns-in_default
