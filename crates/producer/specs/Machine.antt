@@ -7,7 +7,7 @@ use Rattle.std.proofs.lemmas.List.Edits.{sets}
 use Rattle.walk.specs.Refusal as Refusal
 use Rattle.ast.specs.Words.{ifb, up, greater_of, all_eq}
 use Rattle.ast.specs.Cells.{Found, cell_of, quote_of, same_quote_of, shape_of}
-use Rattle.ast.specs.Index.{last_on, end_on, linked, mixed, hash_4}
+use Rattle.ast.specs.Index.{last_on, linked, mixed, hash_4}
 use Rattle.ast.specs.Nodes.{Recalled, find_node, lowest_of, link_cell, recall_of}
 use Rattle.ast.specs.declared.cells.Cell.{Cell}
 use Rattle.ast.specs.declared.cells.Shape.{Shape}
@@ -395,9 +395,6 @@ row_hash kind a b c d e = mixed (mixed (hash_4 kind a b c) d) e
 -- the last row with the kind and the arguments
 unfoldable pub find_row : List ℕ → (n kind a b c d e : ℕ) → Found
 find_row R n kind a b c d e = last_on row_slot quarter R n (same_row R kind a b c d e) 0 (row_hash kind a b c d e)
-
-unfoldable pub row_end : List ℕ → (n h : ℕ) → ℕ
-row_end R n h = end_on row_slot quarter R n 0 h 0
 
 unfoldable pub link_row : List ℕ → (n kind a b c d e : ℕ) → List ℕ
 link_row R n kind a b c d e = linked row_slot quarter R n (row_hash kind a b c d e)

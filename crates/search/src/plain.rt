@@ -63,9 +63,7 @@ fn row_is(rows: &[u32], cells: &[u32], m: u32, i: u32, wanted: Wanted) -> bool
 fn scan_rows(rows: &[u32], n: u32, cells: &[u32], m: u32, wanted: Wanted) -> Option<u32>
     ensures { result ≡ scan_rows rows.now n cells.now m wanted }
 {
-    let mut i = n;
-    while 0 < i {
-        i -= 1;
+    for i in (0..n).rev() {
         if row_is(rows, cells, m, i, wanted) {
             return Some(i);
         }
