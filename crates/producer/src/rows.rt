@@ -173,22 +173,17 @@ pub fn row_start(i: u32) -> usize
 
 // Whether row `i` has the judgment's kind and arguments. The third argument is looked at first: it tells most rows apart, and a search
 // goes through many.
+#[tactic(auto, unfolding(crate::specs::Machine::same_row, ast::specs::Words::all_eq))]
 pub fn same_row(rows: &[u32], i: u32, kind: u32, a: u32, b: u32, c: u32, d: u32, e: u32) -> bool
     ensures { result ≡ same_row rows.now kind a b c d e i }
 {
     let at = row_start(i);
-    if word(rows, at + 15) == c {
-        if word(rows, at + 14) == b {
-            if word(rows, at + 19) == kind {
-                if word(rows, at + 13) == a {
-                    if word(rows, at + 16) == d {
-                        return word(rows, at + 17) == e;
-                    }
-                }
-            }
-        }
-    }
-    false
+    word(rows, at + 15) == c
+        && word(rows, at + 14) == b
+        && word(rows, at + 19) == kind
+        && word(rows, at + 13) == a
+        && word(rows, at + 16) == d
+        && word(rows, at + 17) == e
 }
 
 // The hash of a judgment.

@@ -45,18 +45,12 @@ fn row_is(rows: &[u32], cells: &[u32], m: u32, i: u32, wanted: Wanted) -> bool
 {
     let kind = wanted.kind;
     let at = row_start(i);
-    if rules::rule_kind(word(rows, at)) == kind {
-        if same_argument(rows, cells, m, i, kind, 0, wanted.a) {
-            if same_argument(rows, cells, m, i, kind, 1, wanted.b) {
-                if same_argument(rows, cells, m, i, kind, 2, wanted.c) {
-                    if same_argument(rows, cells, m, i, kind, 3, wanted.d) {
-                        return same_argument(rows, cells, m, i, kind, 4, wanted.e);
-                    }
-                }
-            }
-        }
-    }
-    false
+    rules::rule_kind(word(rows, at)) == kind
+        && same_argument(rows, cells, m, i, kind, 0, wanted.a)
+        && same_argument(rows, cells, m, i, kind, 1, wanted.b)
+        && same_argument(rows, cells, m, i, kind, 2, wanted.c)
+        && same_argument(rows, cells, m, i, kind, 3, wanted.d)
+        && same_argument(rows, cells, m, i, kind, 4, wanted.e)
 }
 
 // The highest of the first `n` rows whose arguments show what is asked for, over the first `m` cells.
