@@ -89,23 +89,14 @@ SHOWS = [
 ]
 
 
-def one_line(named):
-    return '    matches!(kind, %s)' % ' | '.join(named)
-
-
-def many_lines(named):
-    """As `rt fmt` lays it out."""
-    return ['    matches!(', '        kind,', '        ' + named[0]] + ['            | ' + name for name in named[1:]] + ['    )']
-
-
 @section('crates/ast/src/cells.rt', 'parts that show')
 def _():
     out = []
     for name, says, kinds in SHOWS:
         out += ['// ' + says, '#[tactic(auto, unfolding(crate::specs::Cells::%s))]' % name, 'pub fn %s(kind: u32) -> bool' % name]
         out += ['    ensures { result ≡ %s kind }' % name]
-        named = ['kinds::' + k.word.upper() for k in kinds]
-        out += ['{'] + ([one_line(named)] if len(named) < 4 else many_lines(named)) + ['}', '']
+        out += ['{', '    match kind {']
+        out += ['        kinds::%s => true,' % k.word.upper() for k in kinds] + ['        _ => false,', '    }', '}', '']
     return out[:-1]
 
 
