@@ -2,7 +2,7 @@
 // then by the index that is made over them. A line has the table, what is asked for, and both answers.
 #![tactic(auto)]
 
-use ast::cells::put_cell;
+use ast::cells::{Node, put_cell};
 use ast::kinds;
 use ast::words::{put, put_all};
 use producer::codes::{
@@ -18,7 +18,8 @@ const CELLS: u32 = 14;
 
 // A cell of a kind, whose other words say nothing: no lowest cell, no index.
 fn cell(cells: &mut [u32], n: u32, kind: u32, a: u32, b: u32) {
-    put_cell(cells, n, kind, a, b, 0, 9, 9, 9, 9);
+    let node = Node { kind, a, b, c: 0 };
+    put_cell(cells, n, node, 9, 9, 9, 9);
 }
 
 // nil, nat, zero, u 0, v 0.

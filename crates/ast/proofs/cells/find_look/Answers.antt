@@ -5,4 +5,4 @@ use Rattle.ast.proofs.cells.find_look.Goals as goal
 
 pub returns : goal.returns
 unfolding find_look
-returns c = rw (← c.hash-h.ensures) (c.first.ensures (same_look c.args.cells.now c.args.kind c.args.x c.args.y c.args.z) (λ i b l p. search rules))
+returns c = rw (← c.node_hash-h.ensures) (c.first.ensures (same_look c.args.cells.now c.args.look.kind c.args.look.a c.args.look.b c.args.look.c) (λ i b l p. search rules))

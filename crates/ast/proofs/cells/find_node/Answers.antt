@@ -5,4 +5,4 @@ use Rattle.ast.proofs.cells.find_node.Goals as goal
 
 pub returns : goal.returns
 unfolding find_node
-returns c = rw (← c.look_hash-h.ensures) (c.first.ensures (same_node c.args.cells.now c.args.kind c.args.a c.args.b c.args.c) (λ i b l p. search rules))
+returns c = rw (← c.look_hash-h.ensures) (c.first.ensures (same_node c.args.cells.now c.args.node.kind c.args.node.a c.args.node.b c.args.node.c) (λ i b l p. search rules))
