@@ -9,7 +9,7 @@ use crate::{State, codes};
 use ast::cells::quote;
 use ast::index::{Indexed, hash, last, link, mix};
 use ast::refusals;
-use ast::words::{put_all, succ, word};
+use ast::words::{put_all, word};
 
 // The rows cited: how many, and ten words.
 #[derive(Clone, Copy)]
@@ -48,11 +48,11 @@ pub fn cite0() -> Refs
 }
 
 // A row cited before others.
-#[tactic(auto, unfolding(crate::specs::Machine::cons_refs))]
+#[tactic(auto, unfolding(crate::specs::Machine::cons_refs, ast::specs::Words::up))]
 pub fn cite_before(x: u32, refs: Refs) -> Refs
     ensures { result ≡ cons_refs x refs }
 {
-    let count = succ(refs.count);
+    let count = refs.count.wrapping_add(1);
     Refs {
         count,
         r0: x,

@@ -10,7 +10,6 @@ use crate::rows::{cite0, cite1, cite2, cite3, cite4, cite6, cite7, cite10, find_
 use crate::transforms::Op;
 use crate::{State, codes};
 use ast::cells::{Shape, read, recall, same_quote, shape_of};
-use ast::words::{greater, succ};
 use ast::{kinds, refusals};
 
 impl State {
@@ -339,7 +338,7 @@ impl State {
         let kind = cell.kind;
         match kind {
             kinds::UNIVERSE => {
-                let up = succ(cell.a);
+                let up = cell.a.wrapping_add(1);
                 return self.atom(left, rows, cells, d, g, kinds::UNIVERSE, up, codes::TYPE_U);
             }
             kinds::VAR => {
@@ -466,7 +465,7 @@ impl State {
         let Got::Is(s4, z) = q4 else {
             return q4.as_inferred();
         };
-        let top = greater(i, j);
+        let top = i.max(j);
         let q5 = s4.intern(rows, cells, kinds::UNIVERSE, top, 0, 0);
         let Got::Is(s5, ty) = q5 else {
             return q5.as_inferred();
@@ -598,7 +597,7 @@ impl State {
         let Two::Pair(s2, inner, x1) = q2 else {
             return q2.as_inferred();
         };
-        let up = succ(d);
+        let up = d.wrapping_add(1);
         let q3 = s2.universe(left, rows, cells, up, inner, a);
         let Two::Pair(s3, level, x2) = q3 else {
             return q3.as_inferred();
@@ -645,7 +644,7 @@ impl State {
         let Two::Pair(s2, inner, x1) = q2 else {
             return q2.as_inferred();
         };
-        let up = succ(d);
+        let up = d.wrapping_add(1);
         let q3 = s2.universe(left, rows, cells, up, inner, a);
         let Two::Pair(s3, _, x2) = q3 else {
             return q3.as_inferred();

@@ -7,7 +7,7 @@ ghost use Rattle.run.specs.Run.{low_of, at_most, started, refused_of, answered_o
 
 use crate::call::call;
 use ast::refusals;
-use ast::words::{put_all, succ};
+use ast::words::put_all;
 use producer::State;
 use producer::answers::Two;
 use ran::Ran;
@@ -149,7 +149,7 @@ fn play(
         put_answer(answers, done, t.number, t.row, t.result, t.deepest);
         s = t.state;
         at = t.next;
-        done = succ(done);
+        done = done.wrapping_add(1);
         left = left - 1;
     }
     s

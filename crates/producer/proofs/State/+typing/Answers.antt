@@ -6,6 +6,7 @@ use Rattle.producer.specs.Machine.{known_or, known_row}
 use Rattle.producer.specs.Typing.{as_path, as_pi, as_sigma, check_body, converted, ctx_body, ctx_cons, expose_body, exposed, find, find_app, find_atom, find_binder, find_compound, find_fst, find_lam, find_pair, find_papp, find_path, find_plam, find_snd, find_var, headed, infer_body, new_infer, pair_typed, path_ends, plam_ends, retyped, universe_body}
 use Rattle.producer.proofs.At as law
 use Rattle.producer.proofs.Steps.{steps}
+use Rattle.ast.proofs.Laws.{up_is, greater_is}
 use Rattle.producer.proofs.State.+typing.Goals as goal
 
 pub app-returns-in_default : goal.app-returns-in_default
@@ -251,7 +252,7 @@ expose-returns t c = rw (law.expose_in _ _ _ _ _ _ _ c.if-left-eq0.false, ← c.
 
 pub find-returns-in-1 : goal.find-returns-in-1
 unfolding find find_compound steps
-find-returns-in-1 t c = rw (← c.read-cell.ensures, c.in-1.is, ← c.succ-up.ensures, ← c.atom.ensures)
+find-returns-in-1 t c = rw (← c.read-cell.ensures, c.in-1.is, up_is _, ← c.atom.ensures)
 
 pub find-returns-in-2 : goal.find-returns-in-2
 unfolding find find_compound steps
@@ -549,34 +550,34 @@ path-returns-in_default-q2 t c = rw (← c.ctx-q1.ensures, c.in-Is.is, ← c.dsh
 
 pub path-returns-in_default-q3 : goal.path-returns-in_default-q3
 unfolding find_path path_ends steps
-path-returns-in_default-q3 t c = rw (← c.ctx-q1.ensures, c.in-Is.is, ← c.dshiftctx-q2.ensures, c.in-Pair.is, ← c.succ-up.ensures, ← c.universe-q3.ensures)
+path-returns-in_default-q3 t c = rw (← c.ctx-q1.ensures, c.in-Is.is, ← c.dshiftctx-q2.ensures, c.in-Pair.is, up_is _, ← c.universe-q3.ensures)
     (rw (c.as_inferred-in_default-q3.ensures, c.in_default-q3.is))
 
 pub path-returns-in_default-q4 : goal.path-returns-in_default-q4
 unfolding find_path path_ends steps
-path-returns-in_default-q4 t c = rw (← c.ctx-q1.ensures, c.in-Is.is, ← c.dshiftctx-q2.ensures, c.in-Pair.is, ← c.succ-up.ensures, ← c.universe-q3.ensures)
+path-returns-in_default-q4 t c = rw (← c.ctx-q1.ensures, c.in-Is.is, ← c.dshiftctx-q2.ensures, c.in-Pair.is, up_is _, ← c.universe-q3.ensures)
     (rw (c.in-Pair-q3.is, ← c.ends-q4.ensures, c.as_inferred-in_default-q4.ensures, c.in_default-q4.is))
 
 pub path-returns-in_default-q5 : goal.path-returns-in_default-q5
 unfolding find_path path_ends steps
-path-returns-in_default-q5 t c = rw (← c.ctx-q1.ensures, c.in-Is.is, ← c.dshiftctx-q2.ensures, c.in-Pair.is, ← c.succ-up.ensures, ← c.universe-q3.ensures)
+path-returns-in_default-q5 t c = rw (← c.ctx-q1.ensures, c.in-Is.is, ← c.dshiftctx-q2.ensures, c.in-Pair.is, up_is _, ← c.universe-q3.ensures)
     (rw (c.in-Pair-q3.is, ← c.ends-q4.ensures, c.in-Each.is, ← c.check-q5.ensures, c.as_inferred-in_default-q5.ensures, c.in_default-q5.is))
 
 pub path-returns-in_default-q6 : goal.path-returns-in_default-q6
 unfolding find_path path_ends steps
-path-returns-in_default-q6 t c = rw (← c.ctx-q1.ensures, c.in-Is.is, ← c.dshiftctx-q2.ensures, c.in-Pair.is, ← c.succ-up.ensures, ← c.universe-q3.ensures)
+path-returns-in_default-q6 t c = rw (← c.ctx-q1.ensures, c.in-Is.is, ← c.dshiftctx-q2.ensures, c.in-Pair.is, up_is _, ← c.universe-q3.ensures)
     (rw (c.in-Pair-q3.is, ← c.ends-q4.ensures, c.in-Each.is, ← c.check-q5.ensures, c.in-Is-q5.is, ← c.check-q6.ensures)
     (rw (c.as_inferred-in_default-q6.ensures, c.in_default-q6.is)))
 
 pub path-returns-in_default-q7 : goal.path-returns-in_default-q7
 unfolding find_path path_ends steps
-path-returns-in_default-q7 t c = rw (← c.ctx-q1.ensures, c.in-Is.is, ← c.dshiftctx-q2.ensures, c.in-Pair.is, ← c.succ-up.ensures, ← c.universe-q3.ensures)
+path-returns-in_default-q7 t c = rw (← c.ctx-q1.ensures, c.in-Is.is, ← c.dshiftctx-q2.ensures, c.in-Pair.is, up_is _, ← c.universe-q3.ensures)
     (rw (c.in-Pair-q3.is, ← c.ends-q4.ensures, c.in-Each.is, ← c.check-q5.ensures, c.in-Is-q5.is, ← c.check-q6.ensures)
     (rw (c.in-Is-q6.is, ← c.intern-q7.ensures, c.as_inferred-in_default-q7.ensures, c.in_default-q7.is)))
 
 pub path-returns : goal.path-returns
 unfolding find_path path_ends steps
-path-returns t c = rw (← c.ctx-q1.ensures, c.in-Is.is, ← c.dshiftctx-q2.ensures, c.in-Pair.is, ← c.succ-up.ensures, ← c.universe-q3.ensures)
+path-returns t c = rw (← c.ctx-q1.ensures, c.in-Is.is, ← c.dshiftctx-q2.ensures, c.in-Pair.is, up_is _, ← c.universe-q3.ensures)
     (rw (c.in-Pair-q3.is, ← c.ends-q4.ensures, c.in-Each.is, ← c.check-q5.ensures, c.in-Is-q5.is, ← c.check-q6.ensures)
     (rw (c.in-Is-q6.is, ← c.intern-q7.ensures, c.in-Is-q7.is, ← c.cite7-refs.ensures)))
 
@@ -624,12 +625,12 @@ pi-returns-in_default-q4 t c = rw (← c.universe-q1.ensures, c.in-Pair.is, ← 
 pub pi-returns-in_default-q5 : goal.pi-returns-in_default-q5
 unfolding find_binder steps
 pi-returns-in_default-q5 t c = rw (← c.universe-q1.ensures, c.in-Pair.is, ← c.prepare-q2.ensures, c.in-Is.is, ← c.universe-q3.ensures, c.in-Pair-q3.is)
-    (rw (← c.max-q4.ensures, c.in-Is-q4.is, ← c.greater-top.ensures, ← c.intern-q5.ensures, c.as_inferred-in_default-q5.ensures, c.in_default-q5.is))
+    (rw (← c.max-q4.ensures, c.in-Is-q4.is, greater_is _ _, ← c.max-top.ensures, ← c.intern-q5.ensures, c.as_inferred-in_default-q5.ensures, c.in_default-q5.is))
 
 pub pi-returns : goal.pi-returns
 unfolding find_binder steps
 pi-returns t c = rw (← c.universe-q1.ensures, c.in-Pair.is, ← c.prepare-q2.ensures, c.in-Is.is, ← c.universe-q3.ensures, c.in-Pair-q3.is)
-    (rw (← c.max-q4.ensures, c.in-Is-q4.is, ← c.greater-top.ensures, ← c.intern-q5.ensures, c.in-Is-q5.is, ← c.cite3-refs.ensures))
+    (rw (← c.max-q4.ensures, c.in-Is-q4.is, greater_is _ _, ← c.max-top.ensures, ← c.intern-q5.ensures, c.in-Is-q5.is, ← c.cite3-refs.ensures))
 
 pub plam-returns-in_default : goal.plam-returns-in_default
 unfolding find_plam plam_ends steps
@@ -641,47 +642,47 @@ plam-returns-in_default-q2 t c = rw (← c.ctx-q1.ensures, c.in-Is.is, ← c.dsh
 
 pub plam-returns-in_default-q3 : goal.plam-returns-in_default-q3
 unfolding find_plam plam_ends steps
-plam-returns-in_default-q3 t c = rw (← c.ctx-q1.ensures, c.in-Is.is, ← c.dshiftctx-q2.ensures, c.in-Pair.is, ← c.succ-up.ensures, ← c.universe-q3.ensures)
+plam-returns-in_default-q3 t c = rw (← c.ctx-q1.ensures, c.in-Is.is, ← c.dshiftctx-q2.ensures, c.in-Pair.is, up_is _, ← c.universe-q3.ensures)
     (rw (c.as_inferred-in_default-q3.ensures, c.in_default-q3.is))
 
 pub plam-returns-in_default-q4 : goal.plam-returns-in_default-q4
 unfolding find_plam plam_ends steps
-plam-returns-in_default-q4 t c = rw (← c.ctx-q1.ensures, c.in-Is.is, ← c.dshiftctx-q2.ensures, c.in-Pair.is, ← c.succ-up.ensures, ← c.universe-q3.ensures)
+plam-returns-in_default-q4 t c = rw (← c.ctx-q1.ensures, c.in-Is.is, ← c.dshiftctx-q2.ensures, c.in-Pair.is, up_is _, ← c.universe-q3.ensures)
     (rw (c.in-Pair-q3.is, ← c.check-q4.ensures, c.as_inferred-in_default-q4.ensures, c.in_default-q4.is))
 
 pub plam-returns-in_default-q5 : goal.plam-returns-in_default-q5
 unfolding find_plam plam_ends steps
-plam-returns-in_default-q5 t c = rw (← c.ctx-q1.ensures, c.in-Is.is, ← c.dshiftctx-q2.ensures, c.in-Pair.is, ← c.succ-up.ensures, ← c.universe-q3.ensures)
+plam-returns-in_default-q5 t c = rw (← c.ctx-q1.ensures, c.in-Is.is, ← c.dshiftctx-q2.ensures, c.in-Pair.is, up_is _, ← c.universe-q3.ensures)
     (rw (c.in-Pair-q3.is, ← c.check-q4.ensures, c.in-Is-q4.is, ← c.ends-q5.ensures, c.as_inferred-in_default-q5.ensures, c.in_default-q5.is))
 
 pub plam-returns-in_default-q6 : goal.plam-returns-in_default-q6
 unfolding find_plam plam_ends steps
-plam-returns-in_default-q6 t c = rw (← c.ctx-q1.ensures, c.in-Is.is, ← c.dshiftctx-q2.ensures, c.in-Pair.is, ← c.succ-up.ensures, ← c.universe-q3.ensures)
+plam-returns-in_default-q6 t c = rw (← c.ctx-q1.ensures, c.in-Is.is, ← c.dshiftctx-q2.ensures, c.in-Pair.is, up_is _, ← c.universe-q3.ensures)
     (rw (c.in-Pair-q3.is, ← c.check-q4.ensures, c.in-Is-q4.is, ← c.ends-q5.ensures, c.in-Each.is, ← c.ends-q6.ensures)
     (rw (c.as_inferred-in_default-q6.ensures, c.in_default-q6.is)))
 
 pub plam-returns-in_default-q7 : goal.plam-returns-in_default-q7
 unfolding find_plam plam_ends steps
-plam-returns-in_default-q7 t c = rw (← c.ctx-q1.ensures, c.in-Is.is, ← c.dshiftctx-q2.ensures, c.in-Pair.is, ← c.succ-up.ensures, ← c.universe-q3.ensures)
+plam-returns-in_default-q7 t c = rw (← c.ctx-q1.ensures, c.in-Is.is, ← c.dshiftctx-q2.ensures, c.in-Pair.is, up_is _, ← c.universe-q3.ensures)
     (rw (c.in-Pair-q3.is, ← c.check-q4.ensures, c.in-Is-q4.is, ← c.ends-q5.ensures, c.in-Each.is, ← c.ends-q6.ensures)
     (rw (c.in-Each-q6.is, ← c.check-q7.ensures, c.as_inferred-in_default-q7.ensures, c.in_default-q7.is)))
 
 pub plam-returns-in_default-q8 : goal.plam-returns-in_default-q8
 unfolding find_plam plam_ends steps
-plam-returns-in_default-q8 t c = rw (← c.ctx-q1.ensures, c.in-Is.is, ← c.dshiftctx-q2.ensures, c.in-Pair.is, ← c.succ-up.ensures, ← c.universe-q3.ensures)
+plam-returns-in_default-q8 t c = rw (← c.ctx-q1.ensures, c.in-Is.is, ← c.dshiftctx-q2.ensures, c.in-Pair.is, up_is _, ← c.universe-q3.ensures)
     (rw (c.in-Pair-q3.is, ← c.check-q4.ensures, c.in-Is-q4.is, ← c.ends-q5.ensures, c.in-Each.is, ← c.ends-q6.ensures)
     (rw (c.in-Each-q6.is, ← c.check-q7.ensures, c.in-Is-q7.is, ← c.check-q8.ensures, c.as_inferred-in_default-q8.ensures, c.in_default-q8.is)))
 
 pub plam-returns-in_default-q9 : goal.plam-returns-in_default-q9
 unfolding find_plam plam_ends steps
-plam-returns-in_default-q9 t c = rw (← c.ctx-q1.ensures, c.in-Is.is, ← c.dshiftctx-q2.ensures, c.in-Pair.is, ← c.succ-up.ensures, ← c.universe-q3.ensures)
+plam-returns-in_default-q9 t c = rw (← c.ctx-q1.ensures, c.in-Is.is, ← c.dshiftctx-q2.ensures, c.in-Pair.is, up_is _, ← c.universe-q3.ensures)
     (rw (c.in-Pair-q3.is, ← c.check-q4.ensures, c.in-Is-q4.is, ← c.ends-q5.ensures, c.in-Each.is, ← c.ends-q6.ensures)
     (rw (c.in-Each-q6.is, ← c.check-q7.ensures, c.in-Is-q7.is, ← c.check-q8.ensures, c.in-Is-q8.is, ← c.intern-q9.ensures)
     (rw (c.as_inferred-in_default-q9.ensures, c.in_default-q9.is))))
 
 pub plam-returns : goal.plam-returns
 unfolding find_plam plam_ends steps
-plam-returns t c = rw (← c.ctx-q1.ensures, c.in-Is.is, ← c.dshiftctx-q2.ensures, c.in-Pair.is, ← c.succ-up.ensures, ← c.universe-q3.ensures)
+plam-returns t c = rw (← c.ctx-q1.ensures, c.in-Is.is, ← c.dshiftctx-q2.ensures, c.in-Pair.is, up_is _, ← c.universe-q3.ensures)
     (rw (c.in-Pair-q3.is, ← c.check-q4.ensures, c.in-Is-q4.is, ← c.ends-q5.ensures, c.in-Each.is, ← c.ends-q6.ensures)
     (rw (c.in-Each-q6.is, ← c.check-q7.ensures, c.in-Is-q7.is, ← c.check-q8.ensures, c.in-Is-q8.is, ← c.intern-q9.ensures)
     (rw (c.in-Is-q9.is, ← c.cite10-refs.ensures))))
