@@ -2,68 +2,50 @@
 // then by the index that is made over them. A line has the table, what is asked for, and both answers.
 #![tactic(auto)]
 
-use ast::cells::{Found, put_cell};
-use ast::words::put;
+use ast::cells::{Node, put_cell};
+use ast::kinds;
+use ast::words::{put, put_all};
+use producer::codes::{
+    CTX_NIL, EQ_REFL, IS_CTX, IS_EQ, IS_HAS, IS_LE, IS_LT, LE_Z, LT_Z, TYPE_CONV, TYPE_ZERO,
+};
 use producer::rows::{cite0, find_row, put_row, row_start};
 use search::index::index_rows;
 use search::plain::{Wanted, last_row};
-use std::io;
+use std::{fmt, io};
 
 // How many cells there are.
 const CELLS: u32 = 14;
 
-// The numbers of some rules, and of the judgments that they conclude.
-const CTX_NIL: u32 = 0;
-
-const LT_Z: u32 = 6;
-
-const LE_Z: u32 = 8;
-
-const TYPE_ZERO: u32 = 79;
-
-const TYPE_CONV: u32 = 87;
-
-const EQ_REFL: u32 = 88;
-
-const CTX: u32 = 0;
-
-const LT: u32 = 3;
-
-const LE: u32 = 4;
-
-const HAS: u32 = 13;
-
-const EQ: u32 = 14;
-
 // A cell of a kind, whose other words say nothing: no lowest cell, no index.
 fn cell(cells: &mut [u32], n: u32, kind: u32, a: u32, b: u32) {
-    put_cell(cells, n, kind, a, b, 0, 9, 9, 9, 9);
+    let node = Node { kind, a, b, c: 0 };
+    put_cell(cells, n, node, 9, 9, 9, 9);
 }
 
 // nil, nat, zero, u 0, v 0.
 fn atoms(cells: &mut [u32]) {
-    cell(cells, 0, 32, 0, 0);
-    cell(cells, 1, 3, 0, 0);
-    cell(cells, 2, 4, 0, 0);
-    cell(cells, 3, 1, 0, 0);
-    cell(cells, 4, 2, 0, 0);
+    cell(cells, 0, kinds::NIL, 0, 0);
+    cell(cells, 1, kinds::NAT, 0, 0);
+    cell(cells, 2, kinds::ZERO, 0, 0);
+    cell(cells, 3, kinds::UNIVERSE, 0, 0);
+    cell(cells, 4, kinds::VAR, 0, 0);
 }
 
 // 5 and 6 have one quote, lam (v 0), and differ in the annotation; so do 9 and 10, which are applied to zero. 7 and 8 are equal.
 fn terms(cells: &mut [u32]) {
-    cell(cells, 5, 6, 1, 4);
-    cell(cells, 6, 6, 3, 4);
-    cell(cells, 7, 5, 1, 1);
-    cell(cells, 8, 5, 1, 1);
-    cell(cells, 9, 7, 5, 2);
-    cell(cells, 10, 7, 6, 2);
+    cell(cells, 5, kinds::LAM, 1, 4);
+    cell(cells, 6, kinds::LAM, 3, 4);
+    cell(cells, 7, kinds::PI, 1, 1);
+    cell(cells, 8, kinds::PI, 1, 1);
+    cell(cells, 9, kinds::APP, 5, 2);
+    cell(cells, 10, kinds::APP, 6, 2);
 }
 
 // 11 and 12 are equal contexts; 13 is a part of itself, and has no quote.
 fn others(cells: &mut [u32]) {
-    cell(cells, 11, 33, 1, 0);
-    cell(cells, 12, 33, 1, 0);
-    cell(cells, 13, 5, 13, 13);
+    cell(cells, 11, kinds::CONS, 1, 0);
+    cell(cells, 12, kinds::CONS, 1, 0);
+    cell(cells, 13, kinds::PI, 13, 13);
 }
 
 // A row by a rule. Its working words are wrong: no kind, and children that are not there or lead astray.
@@ -72,10 +54,7 @@ fn row(rows: &mut [u32], n: u32, rule: u32, a: u32, b: u32, c: u32, d: u32, e: u
     put_row(rows, n, rule, refs, 99, 0, a, b, c, d, e);
     let at = row_start(n);
     put(rows, at + 18, 7);
-    put(rows, at + 20, 1);
-    put(rows, at + 21, 2);
-    put(rows, at + 22, 3);
-    put(rows, at + 23, 4294967295);
+    put_all(rows, at + 20, &[1, 2, 3, u32::MAX]);
 }
 
 // A row of two numbers.
@@ -94,57 +73,70 @@ fn wanted(kind: u32, a: u32, b: u32, c: u32, d: u32, e: u32) -> Wanted {
     }
 }
 
-fn print(rt: &impl Print, found: Found) -> io::Result<()> {
-    match found {
-        Found::At(i) => rt.print(i),
-        Found::Nothing => rt.write_all(b"none"),
+// A judgment on two numbers.
+fn numbers(kind: u32, a: u32, b: u32) -> Wanted {
+    wanted(kind, a, b, 0, 0, 0)
+}
+
+// What a search found, as it is printed.
+#[derive(Clone, Copy)]
+struct Found(Option<u32>);
+
+impl fmt::Display for Found {
+    fn fmt<W: fmt::Write>(&self, f: &mut fmt::Formatter<W>) -> fmt::Result {
+        match self.0 {
+            Some(i) => write!(f, "{i}"),
+            None => f.write_str("none"),
+        }
     }
 }
 
 // The line of a search: by the plain search, and by the index over the first `n` rows.
 fn ask(
     rt: &impl Print,
-    name: &[u8],
+    name: &str,
     rows: &mut [u32],
     n: u32,
     cells: &[u32],
     w: Wanted,
 ) -> io::Result<()> {
-    rt.write_all(name)?;
-    rt.write_all(b": ")?;
-    let plain = last_row(rows, n, cells, CELLS, w);
-    print(rt, plain)?;
-    rt.write_all(b" ")?;
+    let plain = Found(last_row(rows, n, cells, CELLS, w));
     index_rows(rows, n);
-    let by_index = find_row(rows, n, w.kind, w.a, w.b, w.c, w.d, w.e);
-    print(rt, by_index)?;
-    rt.write_all(b"\n")
-}
-
-fn ask_pair(
-    rt: &impl Print,
-    name: &[u8],
-    rows: &mut [u32],
-    n: u32,
-    cells: &[u32],
-    kind: u32,
-    a: u32,
-    b: u32,
-) -> io::Result<()> {
-    let w = wanted(kind, a, b, 0, 0, 0);
-    ask(rt, name, rows, n, cells, w)
+    let by_index = Found(find_row(rows, n, w.kind, w.a, w.b, w.c, w.d, w.e));
+    println!(rt; "{name}: {plain} {by_index}")
 }
 
 // No row, and one.
 fn small(rt: &impl Print, cells: &[u32]) -> io::Result<()> {
     let mut rows = [0u32; 192];
-    ask_pair(rt, b"empty", &mut rows, 0, cells, LT, 1, 2)?;
+    ask(rt, "empty", &mut rows, 0, cells, numbers(IS_LT, 1, 2))?;
     pair(&mut rows, 0, LT_Z, 1, 2);
-    ask_pair(rt, b"empty, a row behind it", &mut rows, 0, cells, LT, 1, 2)?;
-    ask_pair(rt, b"one", &mut rows, 1, cells, LT, 1, 2)?;
-    ask_pair(rt, b"one, another asked", &mut rows, 1, cells, LT, 2, 1)?;
+    ask(
+        rt,
+        "empty, a row behind it",
+        &mut rows,
+        0,
+        cells,
+        numbers(IS_LT, 1, 2),
+    )?;
+    ask(rt, "one", &mut rows, 1, cells, numbers(IS_LT, 1, 2))?;
+    ask(
+        rt,
+        "one, another asked",
+        &mut rows,
+        1,
+        cells,
+        numbers(IS_LT, 2, 1),
+    )?;
     pair(&mut rows, 0, CTX_NIL, 0, 0);
-    ask_pair(rt, b"one, a context", &mut rows, 1, cells, CTX, 0, 0)
+    ask(
+        rt,
+        "one, a context",
+        &mut rows,
+        1,
+        cells,
+        numbers(IS_CTX, 0, 0),
+    )
 }
 
 // A judgment that stands twice, and three times, by one rule and by two.
@@ -156,28 +148,33 @@ fn repeated(rt: &impl Print, cells: &[u32]) -> io::Result<()> {
     pair(&mut rows, 3, LT_Z, 1, 2);
     pair(&mut rows, 4, LE_Z, 1, 2);
     pair(&mut rows, 5, LT_Z, 1, 2);
-    let typing = wanted(HAS, 0, 0, 2, 1, 0);
-    ask(rt, b"twice", &mut rows, 6, cells, typing)?;
+    let typing = wanted(IS_HAS, 0, 0, 2, 1, 0);
+    ask(rt, "twice", &mut rows, 6, cells, typing)?;
     ask(
         rt,
-        b"twice, cut after the first",
+        "twice, cut after the first",
         &mut rows,
         2,
         cells,
         typing,
     )?;
-    ask_pair(rt, b"three times", &mut rows, 6, cells, LT, 1, 2)?;
-    ask_pair(
+    ask(rt, "three times", &mut rows, 6, cells, numbers(IS_LT, 1, 2))?;
+    ask(
         rt,
-        b"three times, cut after the second",
+        "three times, cut after the second",
         &mut rows,
         5,
         cells,
-        LT,
-        1,
-        2,
+        numbers(IS_LT, 1, 2),
     )?;
-    ask_pair(rt, b"once between them", &mut rows, 6, cells, LE, 1, 2)
+    ask(
+        rt,
+        "once between them",
+        &mut rows,
+        6,
+        cells,
+        numbers(IS_LE, 1, 2),
+    )
 }
 
 // Neighbours that differ in one argument, or in the kind alone.
@@ -191,36 +188,25 @@ fn neighbours(rt: &impl Print, cells: &[u32]) -> io::Result<()> {
     row(&mut rows, 5, EQ_REFL, 0, 0, 2, 2, 3);
     pair(&mut rows, 6, LT_Z, 4, 5);
     pair(&mut rows, 7, LE_Z, 4, 5);
-    let middle = wanted(EQ, 0, 0, 2, 2, 1);
+    let middle = wanted(IS_EQ, 0, 0, 2, 2, 1);
+    ask(rt, "neighbours in an argument", &mut rows, 8, cells, middle)?;
+    let other = wanted(IS_EQ, 0, 0, 3, 2, 1);
+    ask(rt, "none of the neighbours", &mut rows, 8, cells, other)?;
     ask(
         rt,
-        b"neighbours in an argument",
+        "neighbours in the kind, the lower",
         &mut rows,
         8,
         cells,
-        middle,
+        numbers(IS_LT, 4, 5),
     )?;
-    let other = wanted(EQ, 0, 0, 3, 2, 1);
-    ask(rt, b"none of the neighbours", &mut rows, 8, cells, other)?;
-    ask_pair(
+    ask(
         rt,
-        b"neighbours in the kind, the lower",
+        "neighbours in the kind, the higher",
         &mut rows,
         8,
         cells,
-        LT,
-        4,
-        5,
-    )?;
-    ask_pair(
-        rt,
-        b"neighbours in the kind, the higher",
-        &mut rows,
-        8,
-        cells,
-        LE,
-        4,
-        5,
+        numbers(IS_LE, 4, 5),
     )
 }
 
@@ -232,28 +218,28 @@ fn annotated(rt: &impl Print, cells: &[u32]) -> io::Result<()> {
     row(&mut rows, 2, TYPE_ZERO, 0, 0, 10, 1, 0);
     row(&mut rows, 3, TYPE_ZERO, 0, 12, 2, 8, 0);
     row(&mut rows, 4, TYPE_ZERO, 0, 0, 13, 1, 0);
-    let lam = wanted(HAS, 0, 0, 5, 7, 0);
+    let lam = wanted(IS_HAS, 0, 0, 5, 7, 0);
     ask(
         rt,
-        b"an annotation, by the lower cell",
+        "an annotation, by the lower cell",
         &mut rows,
         2,
         cells,
         lam,
     )?;
-    let again = wanted(HAS, 0, 0, 6, 8, 0);
+    let again = wanted(IS_HAS, 0, 0, 6, 8, 0);
     ask(
         rt,
-        b"an annotation, by the higher cell",
+        "an annotation, by the higher cell",
         &mut rows,
         2,
         cells,
         again,
     )?;
-    let app = wanted(HAS, 0, 0, 9, 1, 0);
-    ask(rt, b"an annotation inside", &mut rows, 5, cells, app)?;
-    let context = wanted(HAS, 0, 11, 2, 7, 0);
-    ask(rt, b"equal cells", &mut rows, 5, cells, context)
+    let app = wanted(IS_HAS, 0, 0, 9, 1, 0);
+    ask(rt, "an annotation inside", &mut rows, 5, cells, app)?;
+    let context = wanted(IS_HAS, 0, 11, 2, 7, 0);
+    ask(rt, "equal cells", &mut rows, 5, cells, context)
 }
 
 // Judgments with one hash: each is told from the other.
@@ -264,83 +250,90 @@ fn collided(rt: &impl Print, cells: &[u32]) -> io::Result<()> {
     pair(&mut rows, 2, LT_Z, 54026, 50204);
     pair(&mut rows, 3, LE_Z, 44333, 27115);
     pair(&mut rows, 4, LT_Z, 74, 22855);
-    ask_pair(
+    ask(
         rt,
-        b"one hash, the first",
+        "one hash, the first",
         &mut rows,
         4,
         cells,
-        LT,
-        74,
-        22855,
+        numbers(IS_LT, 74, 22855),
     )?;
-    ask_pair(
+    ask(
         rt,
-        b"one hash, the first again",
+        "one hash, the first again",
         &mut rows,
         5,
         cells,
-        LT,
-        74,
-        22855,
+        numbers(IS_LT, 74, 22855),
     )?;
-    ask_pair(
+    ask(
         rt,
-        b"one hash, the second",
+        "one hash, the second",
         &mut rows,
         5,
         cells,
-        LT,
-        30986,
-        46738,
+        numbers(IS_LT, 30986, 46738),
     )?;
-    ask_pair(
+    ask(
         rt,
-        b"one hash, another kind",
+        "one hash, another kind",
         &mut rows,
         5,
         cells,
-        LE,
-        44333,
-        27115,
+        numbers(IS_LE, 44333, 27115),
     )?;
-    ask_pair(
+    ask(
         rt,
-        b"one hash, not there",
+        "one hash, not there",
         &mut rows,
         1,
         cells,
-        LT,
-        30986,
-        46738,
+        numbers(IS_LT, 30986, 46738),
     )
 }
 
 // Every row of the slice is used, and each judgment of the upper half stands in the lower too.
 fn fill(rows: &mut [u32]) {
-    let mut i = 0u32;
-    while i < 256 {
+    for i in 0..256 {
         pair(rows, i, LT_Z, i % 128, 7);
-        i += 1;
     }
 }
 
 fn full(rt: &impl Print, cells: &[u32]) -> io::Result<()> {
     let mut rows = [0u32; 6144];
     fill(&mut rows);
-    ask_pair(rt, b"full, the last", &mut rows, 256, cells, LT, 127, 7)?;
-    ask_pair(
+    ask(
         rt,
-        b"full, the lowest of the upper half",
+        "full, the last",
         &mut rows,
         256,
         cells,
-        LT,
-        0,
-        7,
+        numbers(IS_LT, 127, 7),
     )?;
-    ask_pair(rt, b"full, the lower half", &mut rows, 128, cells, LT, 5, 7)?;
-    ask_pair(rt, b"full, not there", &mut rows, 256, cells, LT, 128, 7)
+    ask(
+        rt,
+        "full, the lowest of the upper half",
+        &mut rows,
+        256,
+        cells,
+        numbers(IS_LT, 0, 7),
+    )?;
+    ask(
+        rt,
+        "full, the lower half",
+        &mut rows,
+        128,
+        cells,
+        numbers(IS_LT, 5, 7),
+    )?;
+    ask(
+        rt,
+        "full, not there",
+        &mut rows,
+        256,
+        cells,
+        numbers(IS_LT, 128, 7),
+    )
 }
 
 fn main(rt: HostRuntime) -> io::Result<()> {

@@ -5,7 +5,6 @@ ghost use Rattle.producer.specs.Answers.{two_as_got, two_as_four, two_as_inferre
 
 use crate::State;
 use crate::rows::Refs;
-use ast::words::less;
 
 // The state alone, or a refusal.
 #[derive(Clone, Copy)]
@@ -72,11 +71,11 @@ pub fn ended_got(q: Got) -> Got
 {
     match q {
         Got::Is(s, x) => {
-            let n = less(s.conversions, 1);
+            let n = s.conversions.saturating_sub(1);
             Got::Is(s.converting(n), x)
         }
         Got::Refused(s, e) => {
-            let n = less(s.conversions, 1);
+            let n = s.conversions.saturating_sub(1);
             Got::Refused(s.converting(n), e)
         }
     }
@@ -89,11 +88,11 @@ pub fn ended_two(q: Two) -> Two
 {
     match q {
         Two::Pair(s, x, y) => {
-            let n = less(s.conversions, 1);
+            let n = s.conversions.saturating_sub(1);
             Two::Pair(s.converting(n), x, y)
         }
         Two::Refused(s, e) => {
-            let n = less(s.conversions, 1);
+            let n = s.conversions.saturating_sub(1);
             Two::Refused(s.converting(n), e)
         }
     }

@@ -8,7 +8,6 @@ use crate::answers::{Got, Two};
 use crate::rows::{Refs, cite0, cite1, cite2};
 use crate::{State, codes};
 use ast::cells::{quote, read};
-use ast::words::succ;
 use ast::{kinds, refusals};
 
 // What is done to an interval's dimensions: shift from k, put r for k.
@@ -260,7 +259,7 @@ impl State {
     }
 
     // The dimension `n`, shifted from `k` on.
-    #[tactic(auto, unfolding(crate::specs::Intervals::idim_shift, crate::proofs::Steps::steps))]
+    #[tactic(auto, unfolding(crate::specs::Intervals::idim_shift, crate::proofs::Steps::steps, ast::specs::Words::up))]
     pub fn idim_shift(
         self,
         left: u32,
@@ -285,7 +284,7 @@ impl State {
         match self.comparison(left, rows, cells, k, n, false) {
             Got::Is(s, x) => {
                 let refs = cite1(x);
-                let up = succ(n);
+                let up = n.wrapping_add(1);
                 s.imake(
                     rows,
                     cells,

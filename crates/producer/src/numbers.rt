@@ -7,7 +7,6 @@ use crate::answers::Got;
 use crate::rows::{cite0, cite1};
 use crate::{State, codes};
 use ast::refusals;
-use ast::words::greater;
 
 impl State {
     // The row of `m < n`, or of `m <= n`; refuses (17) where it is not so.
@@ -151,7 +150,7 @@ impl State {
             return q;
         };
         let refs = cite1(x);
-        let top = greater(m, n);
+        let top = m.max(n);
         s1.emit(
             rows,
             cells,

@@ -6,8 +6,8 @@ ghost use Rattle.producer.specs.Calls.{callees};
 
 use crate::State;
 use crate::answers::{Done, Got};
-use ast::cells::{Found, find_node, link_cell, lowest, put_again, put_cell};
-use ast::{kinds, refusals};
+use ast::cells::{Node, find_node, inference, link_cell, lowest, put_again, put_cell};
+use ast::refusals;
 
 impl State {
     // The cell with the kind and the parts: the one that has them, or a new one; refuses (20) where none is left.
@@ -24,13 +24,14 @@ impl State {
         ensures { end result rows.now cells.new ≡ intern kind a b c (machine rows.now cells.old self) }
     {
         let n = self.cells;
-        match find_node(cells, n, kind, a, b, c) {
-            Found::At(i) => Got::Is(self, i),
-            Found::Nothing => {
+        let node = Node { kind, a, b, c };
+        match find_node(cells, n, node) {
+            Some(i) => Got::Is(self, i),
+            None => {
                 if n < self.cellroom {
-                    let quote = lowest(cells, n, kind, a, b, c);
-                    link_cell(cells, n, kind, a, b, c);
-                    put_cell(cells, n, kind, a, b, c, quote, 0, 0, 0);
+                    let quote = lowest(cells, n, node);
+                    link_cell(cells, n, node);
+                    put_cell(cells, n, node, quote, 0, 0, 0);
                     self.cells = n + 1;
                     return Got::Is(self, n);
                 }
@@ -54,15 +55,16 @@ impl State {
         ensures { end_0 result rows.now cells.new ≡ remember d g t ty row (machine rows.now cells.old self) }
     {
         let n = self.cells;
-        match find_node(cells, n, kinds::INFERENCE, d, g, t) {
-            Found::At(i) => {
+        let key = inference(d, g, t);
+        match find_node(cells, n, key) {
+            Some(i) => {
                 put_again(cells, i, ty, row);
                 Done::Ready(self)
             }
-            Found::Nothing => {
+            None => {
                 if n < self.cellroom {
-                    link_cell(cells, n, kinds::INFERENCE, d, g, t);
-                    put_cell(cells, n, kinds::INFERENCE, d, g, t, ty, row, 0, 0);
+                    link_cell(cells, n, key);
+                    put_cell(cells, n, key, ty, row, 0, 0);
                     self.cells = n + 1;
                     return Done::Ready(self);
                 }

@@ -9,7 +9,6 @@ use crate::intervals::IOp;
 use crate::rows::{Refs, cite_before, cite_first, cite0, cite1, cite2, cite3};
 use crate::{State, codes};
 use ast::cells::{Cell, quote, read};
-use ast::words::succ;
 use ast::{kinds, refusals};
 
 // What is done to a term: shift from k, put r for k; of variables, or of dimensions.
@@ -242,7 +241,7 @@ impl State {
     }
 
     // The variable `n`, shifted from `k` on.
-    #[tactic(auto, unfolding(crate::specs::Transforms::tvar_shift, crate::proofs::Steps::steps))]
+    #[tactic(auto, unfolding(crate::specs::Transforms::tvar_shift, crate::proofs::Steps::steps, ast::specs::Words::up))]
     pub fn tvar_shift(
         self,
         left: u32,
@@ -267,7 +266,7 @@ impl State {
         match self.comparison(left, rows, cells, k, n, false) {
             Got::Is(s, x) => {
                 let refs = cite1(x);
-                let up = succ(n);
+                let up = n.wrapping_add(1);
                 s.tmake_var(rows, cells, i, op, up, codes::SHIFT_V_GE, refs)
             }
             Got::Refused(s, e) => Two::Refused(s, e),
@@ -689,14 +688,14 @@ impl State {
                 if dimension {
                     return Inner::Within(s0, op, refs);
                 }
-                let up = succ(k);
+                let up = k.wrapping_add(1);
                 Inner::Within(s0, Op::Shift(up), refs)
             }
             Op::Subst(k, r) => s0.under_subst(down, rows, cells, k, r, dimension),
             Op::DShift(k) => {
                 let refs = cite0();
                 if dimension {
-                    let up = succ(k);
+                    let up = k.wrapping_add(1);
                     return Inner::Within(s0, Op::DShift(up), refs);
                 }
                 Inner::Within(s0, op, refs)
@@ -706,7 +705,7 @@ impl State {
                     return match s0.itransform(down, rows, cells, r, IOp::IShift(0)) {
                         Two::Pair(s, r1, x) => {
                             let refs = cite1(x);
-                            let up = succ(k);
+                            let up = k.wrapping_add(1);
                             Inner::Within(s, Op::DSubst(up, r1), refs)
                         }
                         Two::Refused(s, e) => Inner::Refused(s, e),
@@ -743,7 +742,7 @@ impl State {
         match self.transform(left, rows, cells, r, Op::Shift(0)) {
             Two::Pair(s, r1, x) => {
                 let refs = cite1(x);
-                let up = succ(k);
+                let up = k.wrapping_add(1);
                 Inner::Within(s, Op::Subst(up, r1), refs)
             }
             Two::Refused(s, e) => Inner::Refused(s, e),

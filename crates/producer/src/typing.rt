@@ -9,8 +9,7 @@ use crate::answers::{Done, Four, Got, Inferred, Two, ended_got, ended_two};
 use crate::rows::{cite0, cite1, cite2, cite3, cite4, cite6, cite7, cite10, find_row};
 use crate::transforms::Op;
 use crate::{State, codes};
-use ast::cells::{Found, Recalled, Shape, read, recall, same_quote, shape_of};
-use ast::words::{greater, succ};
+use ast::cells::{Shape, read, recall, same_quote, shape_of};
 use ast::{kinds, refusals};
 
 impl State {
@@ -26,8 +25,8 @@ impl State {
         let s0 = self.deeper(down);
         let cell = read(cells, g);
         match find_row(rows, s0.rows, codes::IS_CTX, d, cell.quote, 0, 0, 0) {
-            Found::At(i) => Got::Is(s0, i),
-            Found::Nothing => {
+            Some(i) => Got::Is(s0, i),
+            None => {
                 if cell.kind == kinds::NIL {
                     let refs = cite0();
                     return s0.emit(
@@ -303,8 +302,8 @@ impl State {
         let down = left - 1;
         let s0 = self.deeper(down);
         match recall(cells, s0.cells, d, g, t) {
-            Recalled::Known(ty, row) => Two::Pair(s0, ty, row),
-            Recalled::Unknown => {
+            Some((ty, row)) => Two::Pair(s0, ty, row),
+            None => {
                 let q1 = s0.find(down, rows, cells, d, g, t);
                 let Inferred::Has(s1, ty, refs, rule) = q1 else {
                     return q1.as_two();
@@ -339,7 +338,7 @@ impl State {
         let kind = cell.kind;
         match kind {
             kinds::UNIVERSE => {
-                let up = succ(cell.a);
+                let up = cell.a.wrapping_add(1);
                 return self.atom(left, rows, cells, d, g, kinds::UNIVERSE, up, codes::TYPE_U);
             }
             kinds::VAR => {
@@ -466,7 +465,7 @@ impl State {
         let Got::Is(s4, z) = q4 else {
             return q4.as_inferred();
         };
-        let top = greater(i, j);
+        let top = i.max(j);
         let q5 = s4.intern(rows, cells, kinds::UNIVERSE, top, 0, 0);
         let Got::Is(s5, ty) = q5 else {
             return q5.as_inferred();
@@ -598,7 +597,7 @@ impl State {
         let Two::Pair(s2, inner, x1) = q2 else {
             return q2.as_inferred();
         };
-        let up = succ(d);
+        let up = d.wrapping_add(1);
         let q3 = s2.universe(left, rows, cells, up, inner, a);
         let Two::Pair(s3, level, x2) = q3 else {
             return q3.as_inferred();
@@ -645,7 +644,7 @@ impl State {
         let Two::Pair(s2, inner, x1) = q2 else {
             return q2.as_inferred();
         };
-        let up = succ(d);
+        let up = d.wrapping_add(1);
         let q3 = s2.universe(left, rows, cells, up, inner, a);
         let Two::Pair(s3, _, x2) = q3 else {
             return q3.as_inferred();

@@ -5,7 +5,6 @@ ghost use Rattle.std.specs.Prelude.{◌≡◌};
 ghost use Rattle.producer.specs.Machine.{machine, end_2};
 ghost use Rattle.run.specs.Build.{byte_at, parts_of, built, built_one, built_two, built_three, scoped};
 
-use ast::words::succ;
 use ast::{kinds, refusals};
 use producer::State;
 use producer::answers::{Got, Two};
@@ -69,7 +68,7 @@ pub fn build(state: State, left: u32, bytes: &[u8], at: u32, rows: &[u32], cells
     }
     let down = left - 1;
     let kind = byte(bytes, at);
-    let next = succ(at);
+    let next = at.wrapping_add(1);
     let shape = parts(kind);
     match shape {
         1 => {
@@ -80,7 +79,7 @@ pub fn build(state: State, left: u32, bytes: &[u8], at: u32, rows: &[u32], cells
         }
         2 => {
             let number = byte(bytes, next);
-            let past = succ(next);
+            let past = next.wrapping_add(1);
             return match state.intern(rows, cells, kind, number, 0, 0) {
                 Got::Is(s, cell) => Two::Pair(s, cell, past),
                 Got::Refused(s, e) => Two::Refused(s, e),

@@ -7,14 +7,13 @@ ghost use Rattle.run.specs.Call.{with_term, with_sides, by_code, with_context, c
 use crate::build::{DEPTH, build, scope, wide};
 use ast::cells::quote;
 use ast::kinds::NIL;
-use ast::words::succ;
 use producer::State;
 use producer::answers::{Got, Two};
 use syntax::{CallHead, Code};
 
 // The row and the result of the call at `at`, which has this head, or its refusal. A result that is a term is the lowest cell with
 // its quote.
-#[tactic(auto, unfolding(producer::specs::Machine::end_2, crate::specs::Call::called, crate::proofs::Steps::steps))]
+#[tactic(auto, unfolding(producer::specs::Machine::end_2, crate::specs::Call::called, crate::proofs::Steps::steps, ast::specs::Words::up))]
 pub fn call(
     state: State,
     bytes: &[u8],
@@ -26,9 +25,9 @@ pub fn call(
     ensures { end_2 result rows.new cells.new ≡ called bytes.now at head (machine rows.old cells.old state) }
 {
     let left = state.limit;
-    let second = succ(at);
-    let third = succ(second);
-    let types = succ(third);
+    let second = at.wrapping_add(1);
+    let third = second.wrapping_add(1);
+    let types = third.wrapping_add(1);
     enter_context(state, left, bytes, types, head, rows, cells)
 }
 

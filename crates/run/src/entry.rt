@@ -7,7 +7,7 @@ ghost use Rattle.run.specs.Run.{low_of, at_most, started, refused_of, answered_o
 
 use crate::call::call;
 use ast::refusals;
-use ast::words::{put, succ};
+use ast::words::put_all;
 use producer::State;
 use producer::answers::Two;
 use ran::Ran;
@@ -123,11 +123,7 @@ fn step(
 fn put_answer(answers: &mut [u32], i: u32, number: u32, row: u32, res: u32, deepest: u32)
     ensures { answers.new ≡ sets answers.old (i * 4) (number ∷ row ∷ res ∷ deepest ∷ []) }
 {
-    let at = (i as usize) * 4;
-    put(answers, at, number);
-    put(answers, at + 1, row);
-    put(answers, at + 2, res);
-    put(answers, at + 3, deepest);
+    put_all(answers, (i as usize) * 4, &[number, row, res, deepest]);
 }
 
 // Plays so many calls, the first at offset 2.
@@ -152,7 +148,7 @@ fn play(
         put_answer(answers, done, t.number, t.row, t.result, t.deepest);
         s = t.state;
         at = t.next;
-        done = succ(done);
+        done = done.wrapping_add(1);
         left = left - 1;
     }
     s

@@ -5,7 +5,6 @@ use Rattle.std.proofs.Math.Path.{refl, sym, ap}
 use Rattle.std.proofs.Common.{◌∙◌, add-zero, arith, eq-eqb, ltb-true}
 use Rattle.std.proofs.Math.Option.{Option, none, some}
 use Rattle.ast.specs.Words.{ifb}
-use Rattle.ast.specs.declared.cells.Found.{Found}
 use Rattle.producer.specs.Machine.{find_row}
 use Rattle.rules.specs.Kinds.{sort_of}
 use Rattle.rules.specs.Sorts.{sort, sorted}
@@ -23,6 +22,7 @@ use Rattle.search.specs.Arguments.{ArgumentRead, ReadAll, none_left, ◌then◌,
 use Rattle.search.specs.Indexing.{Indexed}
 use Rattle.search.specs.Found.{states, stated, newest}
 use Rattle.search.specs.Plain.{same_word, same_argument, row_is, scan_rows}
+use Rattle.ast.specs.Cells.{Found}
 
 -- a word of a row against one that is asked for
 

@@ -2,8 +2,7 @@
 -- states the judgment.
 use Rattle.std.specs.Prelude.{ℕ, ◌+◌, ◌*◌, Bool, true, false, List, get_or, ltb, eqb}
 use Rattle.ast.specs.Words.{ifb}
-use Rattle.ast.specs.Cells.{last_of}
-use Rattle.ast.specs.declared.cells.Found.{Found}
+use Rattle.ast.specs.Cells.{Found, last_of}
 use Rattle.rules.specs.Kinds.{absent, number, sort_of}
 use Rattle.walk.specs.Rule.{kind_of}
 use Rattle.search.specs.declared.plain.Wanted.{Wanted}

@@ -4,7 +4,6 @@ ghost use Rattle.search.specs.Newest.{Finds};
 ghost use Rattle.search.specs.Plain.{same_argument, row_is, scan_rows};
 
 use crate::alike::same_cells;
-use ast::cells::Found;
 use ast::words::word;
 use producer::rows::row_start;
 
@@ -46,37 +45,29 @@ fn row_is(rows: &[u32], cells: &[u32], m: u32, i: u32, wanted: Wanted) -> bool
 {
     let kind = wanted.kind;
     let at = row_start(i);
-    if rules::rule_kind(word(rows, at)) == kind {
-        if same_argument(rows, cells, m, i, kind, 0, wanted.a) {
-            if same_argument(rows, cells, m, i, kind, 1, wanted.b) {
-                if same_argument(rows, cells, m, i, kind, 2, wanted.c) {
-                    if same_argument(rows, cells, m, i, kind, 3, wanted.d) {
-                        return same_argument(rows, cells, m, i, kind, 4, wanted.e);
-                    }
-                }
-            }
-        }
-    }
-    false
+    rules::rule_kind(word(rows, at)) == kind
+        && same_argument(rows, cells, m, i, kind, 0, wanted.a)
+        && same_argument(rows, cells, m, i, kind, 1, wanted.b)
+        && same_argument(rows, cells, m, i, kind, 2, wanted.c)
+        && same_argument(rows, cells, m, i, kind, 3, wanted.d)
+        && same_argument(rows, cells, m, i, kind, 4, wanted.e)
 }
 
 // The highest of the first `n` rows whose arguments show what is asked for, over the first `m` cells.
-fn scan_rows(rows: &[u32], n: u32, cells: &[u32], m: u32, wanted: Wanted) -> Found
+fn scan_rows(rows: &[u32], n: u32, cells: &[u32], m: u32, wanted: Wanted) -> Option<u32>
     ensures { result ≡ scan_rows rows.now n cells.now m wanted }
 {
-    let mut i = n;
-    while 0 < i {
-        i -= 1;
+    for i in (0..n).rev() {
         if row_is(rows, cells, m, i, wanted) {
-            return Found::At(i);
+            return Some(i);
         }
     }
-    Found::Nothing
+    None
 }
 
 // The highest of the first `n` rows that states the judgment, over the first `m` cells.
 #[tactic(auto, using(crate::proofs::Scanned::finds))]
-pub fn last_row(rows: &[u32], n: u32, cells: &[u32], m: u32, wanted: Wanted) -> Found
+pub fn last_row(rows: &[u32], n: u32, cells: &[u32], m: u32, wanted: Wanted) -> Option<u32>
     ensures { Finds rows.now n cells.now m wanted result }
 {
     scan_rows(rows, n, cells, m, wanted)

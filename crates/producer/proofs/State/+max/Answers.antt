@@ -3,6 +3,7 @@ use borrow.Author.Tests.{eq-eqb, ne_eqb}
 use Rattle.producer.specs.Numbers.{max_body}
 use Rattle.producer.proofs.At as law
 use Rattle.producer.proofs.Steps.{steps}
+use Rattle.ast.proofs.Laws.{greater_is}
 use Rattle.producer.proofs.State.+max.Goals as goal
 
 pub returns-then-left-eq0 : goal.returns-then-left-eq0
@@ -24,4 +25,4 @@ returns-in_default t c = rw (law.max_in _ _ _ _ c.if-left-eq0.false, ← c.deepe
 pub returns : goal.returns
 unfolding max_body steps
 returns t c = rw (law.max_in _ _ _ _ c.if-left-eq0.false, ← c.deeper-s0.ensures, ne_eqb _ _ c.if-m-eq0.false, ne_eqb _ _ c.if-n-eq0.false, ← c.max-q.ensures, c.in-Is.is)
-    (rw (← c.cite1-refs.ensures, ← c.greater-top.ensures, ← c.emit-2.ensures))
+    (rw (← c.cite1-refs.ensures, greater_is _ _, ← c.max-top.ensures, ← c.emit-2.ensures))

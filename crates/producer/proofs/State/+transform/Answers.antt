@@ -4,6 +4,7 @@ use borrow.Author.Tests.{eq-eqb, ne_eqb}
 use Rattle.producer.specs.Transforms.{compound, transform_app, transform_binder, transform_body, transform_lam, transform_pair, transform_papp, transform_path, transform_plam, transform_projection, under_body, under_subst}
 use Rattle.producer.proofs.At as law
 use Rattle.producer.proofs.Steps.{steps}
+use Rattle.ast.proofs.Laws.{up_is}
 use Rattle.producer.proofs.State.+transform.Goals as goal
 
 pub compound-returns-in-5 : goal.compound-returns-in-5
@@ -196,12 +197,12 @@ under-returns-then-dimension t c = rw (law.under_in _ _ _ _ c.if-left-eq0.false,
 
 pub under-returns-then-dimension-2 : goal.under-returns-then-dimension-2
 unfolding under_body steps
-under-returns-then-dimension-2 t c = rw (law.under_in _ _ _ _ c.if-left-eq0.false, ← c.deeper-s0.ensures, c.in-DShift.is, ← c.cite0-refs-in-DShift.ensures, c.if-dimension-2.true, ← c.succ-up-then-dimension-2.ensures)
+under-returns-then-dimension-2 t c = rw (law.under_in _ _ _ _ c.if-left-eq0.false, ← c.deeper-s0.ensures, c.in-DShift.is, ← c.cite0-refs-in-DShift.ensures, c.if-dimension-2.true, up_is _)
 
 pub under-returns-in-Pair : goal.under-returns-in-Pair
 unfolding under_body steps
 under-returns-in-Pair t c = rw (law.under_in _ _ _ _ c.if-left-eq0.false, ← c.deeper-s0.ensures, c.in-DSubst.is, c.if-dimension-3.true, ← c.itransform.ensures, c.in-Pair.is)
-    (rw (← c.cite1-refs.ensures, ← c.succ-up-in-Pair.ensures))
+    (rw (← c.cite1-refs.ensures, up_is _))
 
 pub under-returns-in-Refused : goal.under-returns-in-Refused
 unfolding under_body steps
@@ -209,7 +210,7 @@ under-returns-in-Refused t c = rw (law.under_in _ _ _ _ c.if-left-eq0.false, ←
 
 pub under-returns-else-dimension : goal.under-returns-else-dimension
 unfolding under_body steps
-under-returns-else-dimension t c = rw (law.under_in _ _ _ _ c.if-left-eq0.false, ← c.deeper-s0.ensures, c.in-Shift.is, ← c.cite0-refs.ensures, c.if-dimension.false, ← c.succ-up.ensures)
+under-returns-else-dimension t c = rw (law.under_in _ _ _ _ c.if-left-eq0.false, ← c.deeper-s0.ensures, c.in-Shift.is, ← c.cite0-refs.ensures, c.if-dimension.false, up_is _)
 
 pub under-returns-in-Subst : goal.under-returns-in-Subst
 unfolding under_body steps
@@ -233,7 +234,7 @@ under_subst-returns-in-Refused t c = rw (c.if-dimension.true, ← c.transform.en
 
 pub under_subst-returns-in-Pair-transform : goal.under_subst-returns-in-Pair-transform
 unfolding under_subst steps
-under_subst-returns-in-Pair-transform t c = rw (c.if-dimension.false, ← c.transform-2.ensures, c.in-Pair-transform.is, ← c.cite1-refs-in-Pair-transform.ensures, ← c.succ-up.ensures)
+under_subst-returns-in-Pair-transform t c = rw (c.if-dimension.false, ← c.transform-2.ensures, c.in-Pair-transform.is, ← c.cite1-refs-in-Pair-transform.ensures, up_is _)
 
 pub under_subst-returns-in-Refused-transform : goal.under_subst-returns-in-Refused-transform
 unfolding under_subst steps

@@ -6,6 +6,7 @@ use Rattle.producer.specs.Machine.{known_or, known_row}
 use Rattle.producer.specs.Typing.{as_path, as_pi, as_sigma, check_body, converted, ctx_body, ctx_cons, expose_body, exposed, find, find_app, find_atom, find_binder, find_compound, find_fst, find_lam, find_pair, find_papp, find_path, find_plam, find_snd, find_var, headed, infer_body, new_infer, pair_typed, path_ends, plam_ends, retyped, universe_body}
 use Rattle.producer.proofs.At as law
 use Rattle.producer.proofs.Steps.{steps}
+use Rattle.ast.proofs.Laws.{up_is, greater_is}
 use Rattle.producer.proofs.State.+typing.Goals as goal
 
 pub app-returns-in_default : goal.app-returns-in_default
@@ -133,27 +134,27 @@ ctx-returns-then-left-eq0 t c = rw (law.ctx_none _ _ _ _ c.if-left-eq0.true)
 
 pub ctx-returns-then-cell-eq-NIL : goal.ctx-returns-then-cell-eq-NIL
 unfolding ctx_body known_row known_or ctx_cons steps
-ctx-returns-then-cell-eq-NIL t c = rw (law.ctx_in _ _ _ _ c.if-left-eq0.false, ← c.deeper-s0.ensures, ← c.read-cell.ensures, ← c.find_row.ensures, c.in-Nothing.is, eq-eqb _ _ c.if-cell-eq-NIL.true)
+ctx-returns-then-cell-eq-NIL t c = rw (law.ctx_in _ _ _ _ c.if-left-eq0.false, ← c.deeper-s0.ensures, ← c.read-cell.ensures, ← c.find_row.ensures, c.in-None.is, eq-eqb _ _ c.if-cell-eq-NIL.true)
     (rw (← c.cite0-refs.ensures, ← c.emit.ensures))
 
 pub ctx-returns-in_default : goal.ctx-returns-in_default
 unfolding ctx_body known_row known_or ctx_cons steps
-ctx-returns-in_default t c = rw (law.ctx_in _ _ _ _ c.if-left-eq0.false, ← c.deeper-s0.ensures, ← c.read-cell.ensures, ← c.find_row.ensures, c.in-Nothing.is, ne_eqb _ _ c.if-cell-eq-NIL.false)
+ctx-returns-in_default t c = rw (law.ctx_in _ _ _ _ c.if-left-eq0.false, ← c.deeper-s0.ensures, ← c.read-cell.ensures, ← c.find_row.ensures, c.in-None.is, ne_eqb _ _ c.if-cell-eq-NIL.false)
     (rw (← c.ctx-q1.ensures, c.in_default.is))
 
 pub ctx-returns-in_default-q2 : goal.ctx-returns-in_default-q2
 unfolding ctx_body known_row known_or ctx_cons steps
-ctx-returns-in_default-q2 t c = rw (law.ctx_in _ _ _ _ c.if-left-eq0.false, ← c.deeper-s0.ensures, ← c.read-cell.ensures, ← c.find_row.ensures, c.in-Nothing.is, ne_eqb _ _ c.if-cell-eq-NIL.false)
+ctx-returns-in_default-q2 t c = rw (law.ctx_in _ _ _ _ c.if-left-eq0.false, ← c.deeper-s0.ensures, ← c.read-cell.ensures, ← c.find_row.ensures, c.in-None.is, ne_eqb _ _ c.if-cell-eq-NIL.false)
     (rw (← c.ctx-q1.ensures, c.in-Is.is, ← c.universe-q2.ensures, c.as_got.ensures, c.in_default-q2.is))
 
-pub ctx-returns-in-At : goal.ctx-returns-in-At
+pub ctx-returns-in-Some : goal.ctx-returns-in-Some
 unfolding ctx_body known_row known_or ctx_cons steps
-ctx-returns-in-At t c = rw (law.ctx_in _ _ _ _ c.if-left-eq0.false, ← c.deeper-s0.ensures, ← c.read-cell.ensures, ← c.find_row.ensures, c.in-At.is)
+ctx-returns-in-Some t c = rw (law.ctx_in _ _ _ _ c.if-left-eq0.false, ← c.deeper-s0.ensures, ← c.read-cell.ensures, ← c.find_row.ensures, c.in-Some.is)
 
 pub ctx-returns-in-Pair : goal.ctx-returns-in-Pair
 unfolding ctx_body known_row known_or ctx_cons steps
-ctx-returns-in-Pair t c = rw (law.ctx_in _ _ _ _ c.if-left-eq0.false, ← c.deeper-s0.ensures, ← c.read-cell.ensures, ← c.find_row.ensures, c.in-Nothing.is, ne_eqb _ _ c.if-cell-eq-NIL.false)
-    (rw (← c.ctx-q1.ensures, c.in-Is.is, ← c.universe-q2.ensures, c.in-Pair.is, ← c.cite2-refs.ensures, ← c.emit-in-Nothing.ensures))
+ctx-returns-in-Pair t c = rw (law.ctx_in _ _ _ _ c.if-left-eq0.false, ← c.deeper-s0.ensures, ← c.read-cell.ensures, ← c.find_row.ensures, c.in-None.is, ne_eqb _ _ c.if-cell-eq-NIL.false)
+    (rw (← c.ctx-q1.ensures, c.in-Is.is, ← c.universe-q2.ensures, c.in-Pair.is, ← c.cite2-refs.ensures, ← c.emit-in-None.ensures))
 
 pub equal-returns-then-left-eq0 : goal.equal-returns-then-left-eq0
 unfolding equal_body equal_normal steps
@@ -251,7 +252,7 @@ expose-returns t c = rw (law.expose_in _ _ _ _ _ _ _ c.if-left-eq0.false, ← c.
 
 pub find-returns-in-1 : goal.find-returns-in-1
 unfolding find find_compound steps
-find-returns-in-1 t c = rw (← c.read-cell.ensures, c.in-1.is, ← c.succ-up.ensures, ← c.atom.ensures)
+find-returns-in-1 t c = rw (← c.read-cell.ensures, c.in-1.is, up_is _, ← c.atom.ensures)
 
 pub find-returns-in-2 : goal.find-returns-in-2
 unfolding find find_compound steps
@@ -348,26 +349,26 @@ infer-returns-then-left-eq0 t c = rw (law.infer_none _ _ _ _ _ c.if-left-eq0.tru
 
 pub infer-returns-in_default : goal.infer-returns-in_default
 unfolding infer_body new_infer steps
-infer-returns-in_default t c = rw (law.infer_in _ _ _ _ _ c.if-left-eq0.false, ← c.deeper-s0.ensures, ← c.recall.ensures, c.in-Unknown.is, ← c.find-q1.ensures, c.as_two.ensures)
+infer-returns-in_default t c = rw (law.infer_in _ _ _ _ _ c.if-left-eq0.false, ← c.deeper-s0.ensures, ← c.recall.ensures, c.in-None.is, ← c.find-q1.ensures, c.as_two.ensures)
     (rw (c.in_default.is))
 
 pub infer-returns-in_default-q2 : goal.infer-returns-in_default-q2
 unfolding infer_body new_infer steps
-infer-returns-in_default-q2 t c = rw (law.infer_in _ _ _ _ _ c.if-left-eq0.false, ← c.deeper-s0.ensures, ← c.recall.ensures, c.in-Unknown.is, ← c.find-q1.ensures, c.in-Has.is)
+infer-returns-in_default-q2 t c = rw (law.infer_in _ _ _ _ _ c.if-left-eq0.false, ← c.deeper-s0.ensures, ← c.recall.ensures, c.in-None.is, ← c.find-q1.ensures, c.in-Has.is)
     (rw (← c.emit_has-q2.ensures, c.as_two-in_default-q2.ensures, c.in_default-q2.is))
 
 pub infer-returns-in_default-q3 : goal.infer-returns-in_default-q3
 unfolding infer_body new_infer steps
-infer-returns-in_default-q3 t c = rw (law.infer_in _ _ _ _ _ c.if-left-eq0.false, ← c.deeper-s0.ensures, ← c.recall.ensures, c.in-Unknown.is, ← c.find-q1.ensures, c.in-Has.is)
+infer-returns-in_default-q3 t c = rw (law.infer_in _ _ _ _ _ c.if-left-eq0.false, ← c.deeper-s0.ensures, ← c.recall.ensures, c.in-None.is, ← c.find-q1.ensures, c.in-Has.is)
     (rw (← c.emit_has-q2.ensures, c.in-Is.is, ← c.remember-q3.ensures, c.as_two-in_default-q3.ensures, c.in_default-q3.is))
 
-pub infer-returns-in-Known : goal.infer-returns-in-Known
+pub infer-returns-in-Some : goal.infer-returns-in-Some
 unfolding infer_body new_infer steps
-infer-returns-in-Known t c = rw (law.infer_in _ _ _ _ _ c.if-left-eq0.false, ← c.deeper-s0.ensures, ← c.recall.ensures, c.in-Known.is)
+infer-returns-in-Some t c = rw (law.infer_in _ _ _ _ _ c.if-left-eq0.false, ← c.deeper-s0.ensures, ← c.recall.ensures, c.in-Some.is)
 
 pub infer-returns-in-Ready : goal.infer-returns-in-Ready
 unfolding infer_body new_infer steps
-infer-returns-in-Ready t c = rw (law.infer_in _ _ _ _ _ c.if-left-eq0.false, ← c.deeper-s0.ensures, ← c.recall.ensures, c.in-Unknown.is, ← c.find-q1.ensures, c.in-Has.is)
+infer-returns-in-Ready t c = rw (law.infer_in _ _ _ _ _ c.if-left-eq0.false, ← c.deeper-s0.ensures, ← c.recall.ensures, c.in-None.is, ← c.find-q1.ensures, c.in-Has.is)
     (rw (← c.emit_has-q2.ensures, c.in-Is.is, ← c.remember-q3.ensures, c.in-Ready.is))
 
 pub lam-returns-in_default : goal.lam-returns-in_default
@@ -549,34 +550,34 @@ path-returns-in_default-q2 t c = rw (← c.ctx-q1.ensures, c.in-Is.is, ← c.dsh
 
 pub path-returns-in_default-q3 : goal.path-returns-in_default-q3
 unfolding find_path path_ends steps
-path-returns-in_default-q3 t c = rw (← c.ctx-q1.ensures, c.in-Is.is, ← c.dshiftctx-q2.ensures, c.in-Pair.is, ← c.succ-up.ensures, ← c.universe-q3.ensures)
+path-returns-in_default-q3 t c = rw (← c.ctx-q1.ensures, c.in-Is.is, ← c.dshiftctx-q2.ensures, c.in-Pair.is, up_is _, ← c.universe-q3.ensures)
     (rw (c.as_inferred-in_default-q3.ensures, c.in_default-q3.is))
 
 pub path-returns-in_default-q4 : goal.path-returns-in_default-q4
 unfolding find_path path_ends steps
-path-returns-in_default-q4 t c = rw (← c.ctx-q1.ensures, c.in-Is.is, ← c.dshiftctx-q2.ensures, c.in-Pair.is, ← c.succ-up.ensures, ← c.universe-q3.ensures)
+path-returns-in_default-q4 t c = rw (← c.ctx-q1.ensures, c.in-Is.is, ← c.dshiftctx-q2.ensures, c.in-Pair.is, up_is _, ← c.universe-q3.ensures)
     (rw (c.in-Pair-q3.is, ← c.ends-q4.ensures, c.as_inferred-in_default-q4.ensures, c.in_default-q4.is))
 
 pub path-returns-in_default-q5 : goal.path-returns-in_default-q5
 unfolding find_path path_ends steps
-path-returns-in_default-q5 t c = rw (← c.ctx-q1.ensures, c.in-Is.is, ← c.dshiftctx-q2.ensures, c.in-Pair.is, ← c.succ-up.ensures, ← c.universe-q3.ensures)
+path-returns-in_default-q5 t c = rw (← c.ctx-q1.ensures, c.in-Is.is, ← c.dshiftctx-q2.ensures, c.in-Pair.is, up_is _, ← c.universe-q3.ensures)
     (rw (c.in-Pair-q3.is, ← c.ends-q4.ensures, c.in-Each.is, ← c.check-q5.ensures, c.as_inferred-in_default-q5.ensures, c.in_default-q5.is))
 
 pub path-returns-in_default-q6 : goal.path-returns-in_default-q6
 unfolding find_path path_ends steps
-path-returns-in_default-q6 t c = rw (← c.ctx-q1.ensures, c.in-Is.is, ← c.dshiftctx-q2.ensures, c.in-Pair.is, ← c.succ-up.ensures, ← c.universe-q3.ensures)
+path-returns-in_default-q6 t c = rw (← c.ctx-q1.ensures, c.in-Is.is, ← c.dshiftctx-q2.ensures, c.in-Pair.is, up_is _, ← c.universe-q3.ensures)
     (rw (c.in-Pair-q3.is, ← c.ends-q4.ensures, c.in-Each.is, ← c.check-q5.ensures, c.in-Is-q5.is, ← c.check-q6.ensures)
     (rw (c.as_inferred-in_default-q6.ensures, c.in_default-q6.is)))
 
 pub path-returns-in_default-q7 : goal.path-returns-in_default-q7
 unfolding find_path path_ends steps
-path-returns-in_default-q7 t c = rw (← c.ctx-q1.ensures, c.in-Is.is, ← c.dshiftctx-q2.ensures, c.in-Pair.is, ← c.succ-up.ensures, ← c.universe-q3.ensures)
+path-returns-in_default-q7 t c = rw (← c.ctx-q1.ensures, c.in-Is.is, ← c.dshiftctx-q2.ensures, c.in-Pair.is, up_is _, ← c.universe-q3.ensures)
     (rw (c.in-Pair-q3.is, ← c.ends-q4.ensures, c.in-Each.is, ← c.check-q5.ensures, c.in-Is-q5.is, ← c.check-q6.ensures)
     (rw (c.in-Is-q6.is, ← c.intern-q7.ensures, c.as_inferred-in_default-q7.ensures, c.in_default-q7.is)))
 
 pub path-returns : goal.path-returns
 unfolding find_path path_ends steps
-path-returns t c = rw (← c.ctx-q1.ensures, c.in-Is.is, ← c.dshiftctx-q2.ensures, c.in-Pair.is, ← c.succ-up.ensures, ← c.universe-q3.ensures)
+path-returns t c = rw (← c.ctx-q1.ensures, c.in-Is.is, ← c.dshiftctx-q2.ensures, c.in-Pair.is, up_is _, ← c.universe-q3.ensures)
     (rw (c.in-Pair-q3.is, ← c.ends-q4.ensures, c.in-Each.is, ← c.check-q5.ensures, c.in-Is-q5.is, ← c.check-q6.ensures)
     (rw (c.in-Is-q6.is, ← c.intern-q7.ensures, c.in-Is-q7.is, ← c.cite7-refs.ensures)))
 
@@ -624,12 +625,12 @@ pi-returns-in_default-q4 t c = rw (← c.universe-q1.ensures, c.in-Pair.is, ← 
 pub pi-returns-in_default-q5 : goal.pi-returns-in_default-q5
 unfolding find_binder steps
 pi-returns-in_default-q5 t c = rw (← c.universe-q1.ensures, c.in-Pair.is, ← c.prepare-q2.ensures, c.in-Is.is, ← c.universe-q3.ensures, c.in-Pair-q3.is)
-    (rw (← c.max-q4.ensures, c.in-Is-q4.is, ← c.greater-top.ensures, ← c.intern-q5.ensures, c.as_inferred-in_default-q5.ensures, c.in_default-q5.is))
+    (rw (← c.max-q4.ensures, c.in-Is-q4.is, greater_is _ _, ← c.max-top.ensures, ← c.intern-q5.ensures, c.as_inferred-in_default-q5.ensures, c.in_default-q5.is))
 
 pub pi-returns : goal.pi-returns
 unfolding find_binder steps
 pi-returns t c = rw (← c.universe-q1.ensures, c.in-Pair.is, ← c.prepare-q2.ensures, c.in-Is.is, ← c.universe-q3.ensures, c.in-Pair-q3.is)
-    (rw (← c.max-q4.ensures, c.in-Is-q4.is, ← c.greater-top.ensures, ← c.intern-q5.ensures, c.in-Is-q5.is, ← c.cite3-refs.ensures))
+    (rw (← c.max-q4.ensures, c.in-Is-q4.is, greater_is _ _, ← c.max-top.ensures, ← c.intern-q5.ensures, c.in-Is-q5.is, ← c.cite3-refs.ensures))
 
 pub plam-returns-in_default : goal.plam-returns-in_default
 unfolding find_plam plam_ends steps
@@ -641,47 +642,47 @@ plam-returns-in_default-q2 t c = rw (← c.ctx-q1.ensures, c.in-Is.is, ← c.dsh
 
 pub plam-returns-in_default-q3 : goal.plam-returns-in_default-q3
 unfolding find_plam plam_ends steps
-plam-returns-in_default-q3 t c = rw (← c.ctx-q1.ensures, c.in-Is.is, ← c.dshiftctx-q2.ensures, c.in-Pair.is, ← c.succ-up.ensures, ← c.universe-q3.ensures)
+plam-returns-in_default-q3 t c = rw (← c.ctx-q1.ensures, c.in-Is.is, ← c.dshiftctx-q2.ensures, c.in-Pair.is, up_is _, ← c.universe-q3.ensures)
     (rw (c.as_inferred-in_default-q3.ensures, c.in_default-q3.is))
 
 pub plam-returns-in_default-q4 : goal.plam-returns-in_default-q4
 unfolding find_plam plam_ends steps
-plam-returns-in_default-q4 t c = rw (← c.ctx-q1.ensures, c.in-Is.is, ← c.dshiftctx-q2.ensures, c.in-Pair.is, ← c.succ-up.ensures, ← c.universe-q3.ensures)
+plam-returns-in_default-q4 t c = rw (← c.ctx-q1.ensures, c.in-Is.is, ← c.dshiftctx-q2.ensures, c.in-Pair.is, up_is _, ← c.universe-q3.ensures)
     (rw (c.in-Pair-q3.is, ← c.check-q4.ensures, c.as_inferred-in_default-q4.ensures, c.in_default-q4.is))
 
 pub plam-returns-in_default-q5 : goal.plam-returns-in_default-q5
 unfolding find_plam plam_ends steps
-plam-returns-in_default-q5 t c = rw (← c.ctx-q1.ensures, c.in-Is.is, ← c.dshiftctx-q2.ensures, c.in-Pair.is, ← c.succ-up.ensures, ← c.universe-q3.ensures)
+plam-returns-in_default-q5 t c = rw (← c.ctx-q1.ensures, c.in-Is.is, ← c.dshiftctx-q2.ensures, c.in-Pair.is, up_is _, ← c.universe-q3.ensures)
     (rw (c.in-Pair-q3.is, ← c.check-q4.ensures, c.in-Is-q4.is, ← c.ends-q5.ensures, c.as_inferred-in_default-q5.ensures, c.in_default-q5.is))
 
 pub plam-returns-in_default-q6 : goal.plam-returns-in_default-q6
 unfolding find_plam plam_ends steps
-plam-returns-in_default-q6 t c = rw (← c.ctx-q1.ensures, c.in-Is.is, ← c.dshiftctx-q2.ensures, c.in-Pair.is, ← c.succ-up.ensures, ← c.universe-q3.ensures)
+plam-returns-in_default-q6 t c = rw (← c.ctx-q1.ensures, c.in-Is.is, ← c.dshiftctx-q2.ensures, c.in-Pair.is, up_is _, ← c.universe-q3.ensures)
     (rw (c.in-Pair-q3.is, ← c.check-q4.ensures, c.in-Is-q4.is, ← c.ends-q5.ensures, c.in-Each.is, ← c.ends-q6.ensures)
     (rw (c.as_inferred-in_default-q6.ensures, c.in_default-q6.is)))
 
 pub plam-returns-in_default-q7 : goal.plam-returns-in_default-q7
 unfolding find_plam plam_ends steps
-plam-returns-in_default-q7 t c = rw (← c.ctx-q1.ensures, c.in-Is.is, ← c.dshiftctx-q2.ensures, c.in-Pair.is, ← c.succ-up.ensures, ← c.universe-q3.ensures)
+plam-returns-in_default-q7 t c = rw (← c.ctx-q1.ensures, c.in-Is.is, ← c.dshiftctx-q2.ensures, c.in-Pair.is, up_is _, ← c.universe-q3.ensures)
     (rw (c.in-Pair-q3.is, ← c.check-q4.ensures, c.in-Is-q4.is, ← c.ends-q5.ensures, c.in-Each.is, ← c.ends-q6.ensures)
     (rw (c.in-Each-q6.is, ← c.check-q7.ensures, c.as_inferred-in_default-q7.ensures, c.in_default-q7.is)))
 
 pub plam-returns-in_default-q8 : goal.plam-returns-in_default-q8
 unfolding find_plam plam_ends steps
-plam-returns-in_default-q8 t c = rw (← c.ctx-q1.ensures, c.in-Is.is, ← c.dshiftctx-q2.ensures, c.in-Pair.is, ← c.succ-up.ensures, ← c.universe-q3.ensures)
+plam-returns-in_default-q8 t c = rw (← c.ctx-q1.ensures, c.in-Is.is, ← c.dshiftctx-q2.ensures, c.in-Pair.is, up_is _, ← c.universe-q3.ensures)
     (rw (c.in-Pair-q3.is, ← c.check-q4.ensures, c.in-Is-q4.is, ← c.ends-q5.ensures, c.in-Each.is, ← c.ends-q6.ensures)
     (rw (c.in-Each-q6.is, ← c.check-q7.ensures, c.in-Is-q7.is, ← c.check-q8.ensures, c.as_inferred-in_default-q8.ensures, c.in_default-q8.is)))
 
 pub plam-returns-in_default-q9 : goal.plam-returns-in_default-q9
 unfolding find_plam plam_ends steps
-plam-returns-in_default-q9 t c = rw (← c.ctx-q1.ensures, c.in-Is.is, ← c.dshiftctx-q2.ensures, c.in-Pair.is, ← c.succ-up.ensures, ← c.universe-q3.ensures)
+plam-returns-in_default-q9 t c = rw (← c.ctx-q1.ensures, c.in-Is.is, ← c.dshiftctx-q2.ensures, c.in-Pair.is, up_is _, ← c.universe-q3.ensures)
     (rw (c.in-Pair-q3.is, ← c.check-q4.ensures, c.in-Is-q4.is, ← c.ends-q5.ensures, c.in-Each.is, ← c.ends-q6.ensures)
     (rw (c.in-Each-q6.is, ← c.check-q7.ensures, c.in-Is-q7.is, ← c.check-q8.ensures, c.in-Is-q8.is, ← c.intern-q9.ensures)
     (rw (c.as_inferred-in_default-q9.ensures, c.in_default-q9.is))))
 
 pub plam-returns : goal.plam-returns
 unfolding find_plam plam_ends steps
-plam-returns t c = rw (← c.ctx-q1.ensures, c.in-Is.is, ← c.dshiftctx-q2.ensures, c.in-Pair.is, ← c.succ-up.ensures, ← c.universe-q3.ensures)
+plam-returns t c = rw (← c.ctx-q1.ensures, c.in-Is.is, ← c.dshiftctx-q2.ensures, c.in-Pair.is, up_is _, ← c.universe-q3.ensures)
     (rw (c.in-Pair-q3.is, ← c.check-q4.ensures, c.in-Is-q4.is, ← c.ends-q5.ensures, c.in-Each.is, ← c.ends-q6.ensures)
     (rw (c.in-Each-q6.is, ← c.check-q7.ensures, c.in-Is-q7.is, ← c.check-q8.ensures, c.in-Is-q8.is, ← c.intern-q9.ensures)
     (rw (c.in-Is-q9.is, ← c.cite10-refs.ensures))))
