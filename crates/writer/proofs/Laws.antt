@@ -4,8 +4,9 @@ use mathlib.Core.Bool.{Bool, true, ◌&&◌, and-eq-true_iff}
 use mathlib.Core.List.{[], ◌∷◌, ◌++◌}
 use Prim.Native.Nat.{ℕ, zero, suc, ◌+◌, ◌-◌, ◌/◌, ◌<◌, ◌≤◌}
 use native.Mathlib.Decide.{dec_lt}
+use Rattle.std.proofs.Math.Decide.{ℕ_discrete}
 use native.Mathlib.Omega.{arith}
-use borrow.Author.Tests.{lt-ltb, le-ltb, eq-eqb, eqb-true, leb-true}
+use borrow.Author.Tests.{lt-ltb, le-ltb, eq-eqb, ne_eqb, eqb-true, leb-true}
 use lib.Dec.{leb, eqb}
 use lib.ListN.{length, get_or, drop, drop_of_length-le}
 use Rattle.std.proofs.lemmas.List.{at_drop_more}
@@ -51,6 +52,25 @@ pub written_ended : (t : Text) (w : Writer) → ended w ≡ true → written t w
 unfolding written
 written_ended [] w h = refl
 written_ended (b ∷ t) w h = ap (written t) (put_ended b w h) ∙ written_ended t w h
+
+-- The buffer stays the one that was lent.
+put_same : (b : ℕ) (w : Writer) → (put b w).buf.ghost_name ≡ w.buf.ghost_name
+unfolding put
+put_same b w = elim (ℕ_discrete w.skip 0) [
+  | yes h ↦ elim (dec_lt w.filled (length w.buf.now)) [
+    | yes k ↦ rw (eq-eqb _ _ h, put, lt-ltb _ _ k, put)
+    | no k ↦ elim (dec_lt w.left w.most) [
+      | yes l ↦ rw (eq-eqb _ _ h, put, le-ltb w.filled (length w.buf.now) (omega arith), put, lt-ltb _ _ l, put)
+      | no l ↦ rw (eq-eqb _ _ h, put, le-ltb w.filled (length w.buf.now) (omega arith), put, le-ltb w.left w.most (omega arith), put)
+    ]
+  ]
+  | no h ↦ rw (ne_eqb _ _ h, put)
+]
+
+pub written_same : (t : Text) (w : Writer) → (written t w).buf.ghost_name ≡ w.buf.ghost_name
+unfolding written
+written_same [] w = refl
+written_same (b ∷ t) w = written_same t (put b w) ∙ put_same b w
 
 -- loops
 

@@ -7,6 +7,7 @@ ghost use Rattle.writer.specs.Window.{start, put, ended, written};
 
 // Writes into a lent buffer: how many bytes are still to be skipped, how many of the buffer are filled, and how many did not fit, which
 // are counted up to `most`.
+#[derive(Drop)]
 pub struct Writer<'a> {
     pub buf: &'a mut [u8],
     pub skip: usize,
@@ -25,7 +26,8 @@ fn digit(n: u32) -> u8
 impl<'a> Writer<'a> {
     // A writer for the window that starts at `from`, which counts at most so many bytes past its end.
     pub fn new(from: usize, most: usize, buf: &'a mut [u8]) -> Writer<'a>
-        ensures { result ≡ start from most buf.entry }
+        ensures started { result ≡ start from most buf.entry }
+        ensures same_reference { result.buf.ghost_name ≡ buf.entry.ghost_name }
     {
         Writer {
             buf,
