@@ -10,10 +10,9 @@
 // tools/edges.py meets the limit 4,096 too, and takes 3.0 MB for that: it stands here with the limit 1,024, which takes 0.9 MB.
 #![tactic(auto)]
 
-use lines::repeats;
 use ran::Ran;
 use std::io;
-use text::Piece;
+use text::{Calls, Piece, Table, Words};
 
 // The word that slices hold before a run.
 const FILL: u32 = 2863311530;
@@ -179,17 +178,12 @@ fn call(
 ) -> io::Result<()> {
     let mut buf = [0u8; 4096];
     say(rt, b"call ")?;
-    let seen = text::window(
-        Piece::CallLine(i),
+    let words = Words {
         run,
-        codes,
-        answers,
-        &[0u32; 0],
-        cells,
-        0,
-        0,
-        &mut buf,
-    );
+        calls: Calls { codes, answers },
+        table: Table { rows: &[], cells },
+    };
+    let seen = words.window(Piece::CallLine(i), 0, 0, &mut buf);
     say(rt, &buf[..seen.put])
 }
 
@@ -225,7 +219,7 @@ fn report(
     shown(rt, run.calls as usize)?;
     shown(rt, run.rows as usize)?;
     shown(rt, run.cells as usize)?;
-    shown(rt, repeats::repeats(codes, answers, run.calls) as usize)?;
+    shown(rt, Calls { codes, answers }.repeats(run.calls) as usize)?;
     past(rt, rows, (run.rows as usize) * 24)?;
     past(rt, cells, (run.cells as usize) * 8)?;
     past(rt, answers, (run.calls as usize) * 4)?;

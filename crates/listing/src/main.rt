@@ -6,7 +6,7 @@ ghost use Rattle.std.specs.Prelude.{◌≤◌};
 
 use ran::Ran;
 use std::io;
-use text::Piece;
+use text::{Calls, Piece, Table, Words};
 
 // The part of the listing from `from` on that fits the buffer; whether there is more.
 fn put(
@@ -19,17 +19,12 @@ fn put(
     from: usize,
     buf: &mut [u8],
 ) -> io::Result<bool> {
-    let seen = text::window(
-        Piece::Listing,
+    let words = Words {
         run,
-        codes,
-        answers,
-        rows,
-        cells,
-        from,
-        1,
-        buf,
-    );
+        calls: Calls { codes, answers },
+        table: Table { rows, cells },
+    };
+    let seen = words.window(Piece::Listing, from, 1, buf);
     rt.write_all(&buf[..seen.put])?;
     Ok(seen.left != 0)
 }

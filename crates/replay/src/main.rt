@@ -7,7 +7,7 @@ ghost use Rattle.std.specs.Prelude.{◌<◌};
 use ran::Ran;
 use std::io;
 use syntax::call_codes;
-use text::Piece;
+use text::{Calls, Piece, Table, Words};
 
 // What the slices hold before a run.
 const FILL: u32 = 2779096485;
@@ -103,18 +103,12 @@ fn shown(
     from: usize,
     buf: &mut [u8; 16384],
 ) -> usize {
-    let seen = text::window(
-        Piece::Listing,
+    let words = Words {
         run,
-        codes,
-        answers,
-        rows,
-        cells,
-        from,
-        0,
-        buf,
-    );
-    seen.put
+        calls: Calls { codes, answers },
+        table: Table { rows, cells },
+    };
+    words.window(Piece::Listing, from, 0, buf).put
 }
 
 // The rest of a line, or what there is of it in the buffer.

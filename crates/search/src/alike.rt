@@ -3,6 +3,7 @@ ghost use Rattle.std.specs.Prelude.{◌≡◌};
 ghost use Rattle.search.specs.Alike.{cell_word, kind_word, same_part, same_cells};
 
 use ast::words::word;
+use rules::Sort;
 
 // A word of a cell, and 0 past the end.
 fn cell_word(cells: &[u32], i: u32, w: u32) -> u32
@@ -44,20 +45,20 @@ pub fn same_cells(cells: &[u32], i: u32, j: u32) -> bool
 fn same_part(cells: &[u32], kind: u32, n: u32, i: u32, j: u32) -> bool
     ensures { result ≡ same_part (same_cells cells.now) cells.now kind n i j }
 {
-    let sort = rules::part_sort(kind, n);
-    if sort == 0 {
+    let Some(part) = rules::node_part(kind, n) else {
         return true;
-    }
-    let w = rules::part_word(kind, n);
-    let x = cell_word(cells, i, w);
-    let y = cell_word(cells, j, w);
-    if sort == 1 {
-        return x == y;
-    }
-    if x < i {
-        if y < j {
-            return same_cells(cells, x, y);
+    };
+    let x = cell_word(cells, i, part.word);
+    let y = cell_word(cells, j, part.word);
+    match part.sort {
+        Sort::Number => x == y,
+        Sort::Term | Sort::Interval | Sort::Context => {
+            if x < i {
+                if y < j {
+                    return same_cells(cells, x, y);
+                }
+            }
+            false
         }
     }
-    false
 }

@@ -6,6 +6,7 @@ ghost use Rattle.search.specs.Plain.{same_argument, row_is, scan_rows};
 use crate::alike::same_cells;
 use ast::words::word;
 use producer::rows::row_start;
+use rules::Sort;
 
 // A judgment that is asked for: its kind, and its arguments as a row has them, by any cells with their quotes.
 #[derive(Clone, Copy)]
@@ -23,19 +24,20 @@ pub struct Wanted {
 fn same_argument(rows: &[u32], cells: &[u32], m: u32, i: u32, kind: u32, n: u8, x: u32) -> bool
     ensures { result ≡ same_argument rows.now cells.now m i kind n x }
 {
-    let sort = rules::argument_sort(kind, n as u32);
-    if sort == 0 {
+    let Some(sort) = rules::argument_sort(kind, n as u32) else {
         return true;
-    }
+    };
     let at = row_start(i);
     let y = word(rows, at + (13 + n as usize));
-    if sort == 1 {
-        return y == x;
+    match sort {
+        Sort::Number => y == x,
+        Sort::Term | Sort::Interval | Sort::Context => {
+            if y < m {
+                return same_cells(cells, x, y);
+            }
+            false
+        }
     }
-    if y < m {
-        return same_cells(cells, x, y);
-    }
-    false
 }
 
 // Whether row `i` states the judgment.

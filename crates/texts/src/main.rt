@@ -4,7 +4,7 @@
 
 use ran::Ran;
 use std::io;
-use text::Piece;
+use text::{Calls, Piece, Table, Words};
 
 // The window that starts at `from`; whether there is more.
 fn turn(
@@ -18,7 +18,12 @@ fn turn(
     from: usize,
 ) -> io::Result<bool> {
     let mut buf = [0u8; 7];
-    let seen = text::window(what, run, codes, answers, rows, cells, from, 1, &mut buf);
+    let words = Words {
+        run,
+        calls: Calls { codes, answers },
+        table: Table { rows, cells },
+    };
+    let seen = words.window(what, from, 1, &mut buf);
     rt.write_all(&buf[..seen.put])?;
     Ok(seen.left == 1)
 }
@@ -93,17 +98,15 @@ fn measure(
         cells: 64,
     };
     let mut buf = [0u8; 7];
-    let seen = text::window(
-        Piece::CallLine(0),
+    let words = Words {
         run,
-        b"\x02",
-        answers,
-        &[0u32; 0],
-        cells,
-        from,
-        most,
-        &mut buf,
-    );
+        calls: Calls {
+            codes: b"\x02",
+            answers,
+        },
+        table: Table { rows: &[], cells },
+    };
+    let seen = words.window(Piece::CallLine(0), from, most, &mut buf);
     rt.print(seen.put)?;
     rt.write_all(b" ")?;
     rt.print(seen.left)?;
