@@ -1,17 +1,12 @@
 -- Laws of the definitions, by which the functions' proofs go. Assumes nothing.
-use Prim.Native.Nat.{ℕ, zero, suc, ◌+◌, ◌*◌, ◌-◌, ◌<◌, ◌≤◌}
+use Prim.Native.Nat.{ℕ, zero, suc, ◌+◌, ◌-◌, ◌<◌, ◌≤◌}
 use mathlib.Core.Path.{◌≡◌, refl}
 use mathlib.Core.Bool.{Bool, true, false}
 use mathlib.Core.List.{List}
-use native.Mathlib.Nat.{add-zero}
 use native.Mathlib.Numerals.{add-one}
 use native.Mathlib.Omega.{arith}
-use lib.ListN.{get_or}
-use lib.Seq.{sets}
 use Rattle.std.specs.Prelude.{Some, None}
 use Rattle.ast.specs.Cells.{last_of}
-use Rattle.walk.specs.Rule.{kind_of}
-use Rattle.producer.specs.Machine.{link_row}
 use Rattle.search.specs.declared.plain.Wanted.{Wanted}
 use Rattle.std.specs.Prelude.{◌⊎◌}
 use Rattle.std.proofs.Common.{inl, inr}
@@ -19,12 +14,7 @@ use Rattle.rules.specs.declared.Sort.{Sort}
 use Rattle.rules.specs.declared.Sort.TheVariants.{Term, Interval, Context}
 use Rattle.search.specs.Alike.{cell_word, both_lower, part_at}
 use Rattle.search.specs.Plain.{row_is, scan_rows}
-use Rattle.search.specs.Indexing.{last_five, index_row, indexed}
-
--- a row by where it starts
-pub index_row_at : (R : List ℕ) (n at : ℕ) → at ≡ n * 24 → index_row R n ≡ sets (link_row R n (kind_of (get_or R at 0)) (get_or R (at + 13) 0) (get_or R (at + 14) 0) (get_or R (at + 15) 0) (get_or R (at + 16) 0) (get_or R (at + 17) 0)) (at + 19) (last_five (kind_of (get_or R at 0)))
-unfolding index_row
-index_row_at R n at e = rw (e, add-zero)
+use Rattle.search.specs.Indexing.{index_row, indexed}
 
 -- rows that are indexed one after the other
 pub indexed_none : (R : List ℕ) → indexed R 0 ≡ R

@@ -6,6 +6,7 @@ use ast::words::{put_all, word};
 use producer::rows::{link_row, row_start};
 
 // Row `n` comes into the index of those below it, with the kind that its rule concludes and no child.
+#[tactic(auto, unfolding(crate::specs::Indexing::index_row))]
 fn index_row(rows: &mut [u32], n: u32)
     ensures { rows.new ≡ index_row rows.old n }
 {
@@ -21,6 +22,7 @@ fn index_row(rows: &mut [u32], n: u32)
 }
 
 // The first `n` rows are indexed: whatever their working words were, `find_row` then finds the highest row with a judgment.
+#[tactic(auto, using(crate::proofs::Laws::indexed_none, crate::proofs::Laws::indexed_more))]
 pub fn index_rows(rows: &mut [u32], n: u32)
     ensures { rows.new ≡ indexed rows.old n }
 {

@@ -56,6 +56,7 @@ fn row_is(rows: &[u32], cells: &[u32], m: u32, i: u32, wanted: Wanted) -> bool
 }
 
 // The highest of the first `n` rows whose arguments show what is asked for, over the first `m` cells.
+#[tactic(auto, using(crate::proofs::Laws::search_down, crate::proofs::Laws::last_turn, crate::proofs::Laws::last_here, crate::proofs::Laws::last_none))]
 fn scan_rows(rows: &[u32], n: u32, cells: &[u32], m: u32, wanted: Wanted) -> Option<u32>
     ensures { result ≡ scan_rows rows.now n cells.now m wanted }
 {
