@@ -1,5 +1,5 @@
 -- The run over words: its own answer, and the words of the three slices after it.
-use Rattle.std.specs.Prelude.{ℕ, zero, suc, ◌+◌, ◌*◌, ◌/◌, ◌%◌, List, [], ◌∷◌, ltb, length}
+use Rattle.std.specs.Prelude.{ℕ, zero, suc, ◌+◌, ◌*◌, ◌/◌, ◌%◌, List, [], ◌∷◌, ltb, length, Result as Outcome, Ok, Err}
 use Rattle.std.proofs.lemmas.List.Edits.{sets}
 use Rattle.walk.specs.Refusal as Refusal
 use Rattle.ast.specs.Words.{ifb, up}
@@ -7,7 +7,6 @@ use Rattle.producer.specs.declared.State.{State}
 use Rattle.producer.specs.declared.answers.Two.{Two}
 use Rattle.producer.specs.declared.answers.Two.TheVariants.{Pair, Refused as Failed}
 use Rattle.producer.specs.Machine.{Machine, machine, new_state, fresh, Result, is, not}
-use Rattle.std.specs.Prelude.{Result as Outcome, Ok, Err}
 use Rattle.syntax.specs.declared.limits.Fitting.{Fitting}
 use Rattle.syntax.specs.declared.limits.Unfit.{Unfit}
 use Rattle.syntax.specs.declared.limits.Unfit.TheVariants.{Refused, Unread}
