@@ -2,74 +2,55 @@
 // small, so that a short listing takes several too, and each is twice the one before, up to the buffer.
 #![tactic(auto)]
 
-ghost use Rattle.std.specs.Prelude.{◌≤◌};
+ghost use Rattle.std.specs.Prelude.{◌≤◌, length};
 
 use ran::Ran;
 use std::io;
-use text::Piece;
+use text::{Piece, View};
 
-// The part of the listing from `from` on that fits the buffer; whether there is more.
-fn put(
-    rt: &impl Print,
+// A run, its calls' codes and what it left.
+#[derive(Clone, Copy)]
+struct Left<'a> {
     run: Ran,
-    codes: &[u8],
-    answers: &[u32],
-    rows: &[u32],
-    cells: &[u32],
-    from: usize,
-    buf: &mut [u8],
-) -> io::Result<bool> {
-    let seen = text::window(
-        Piece::Listing,
-        run,
-        codes,
-        answers,
-        rows,
-        cells,
-        from,
-        1,
-        buf,
-    );
-    rt.write_all(&buf[..seen.put])?;
-    Ok(seen.left != 0)
+    codes: &'a [u8],
+    answers: &'a [u32],
+    rows: &'a [u32],
+    cells: &'a [u32],
 }
 
-// A window of `size` bytes.
-fn turn(
-    rt: &impl Print,
-    run: Ran,
-    codes: &[u8],
-    answers: &[u32],
-    rows: &[u32],
-    cells: &[u32],
-    from: usize,
-    size: usize,
-) -> io::Result<bool>
-    requires { size ≤ 65536 }
-{
-    let mut buf = [0u8; 65536];
-    put(rt, run, codes, answers, rows, cells, from, &mut buf[..size])
-}
-
-fn show(
-    rt: &impl Print,
-    run: Ran,
-    codes: &[u8],
-    answers: &[u32],
-    rows: &[u32],
-    cells: &[u32],
-) -> io::Result<()> {
-    let mut from: usize = 0;
-    let mut size: usize = 64;
-    while from < 9223372036854775808 {
-        if turn(rt, run, codes, answers, rows, cells, from, size)? {
-            from += size;
-            size = if size < 32768 { 2 * size } else { 65536 };
-        } else {
-            return Ok(());
-        }
+impl<'a> Left<'a> {
+    // The part of the listing from `from` on that fits the buffer; how much it is, and whether more is left.
+    fn window(&self, from: usize, buf: &mut [u8]) -> View
+        ensures { result.put ≤ length buf.new }
+    {
+        text::window(
+            Piece::Listing,
+            self.run,
+            self.codes,
+            self.answers,
+            self.rows,
+            self.cells,
+            from,
+            1,
+            buf,
+        )
     }
-    Ok(())
+
+    fn show(&self, rt: &impl Print) -> io::Result<()> {
+        let mut buf = [0u8; 65536];
+        let mut from: usize = 0;
+        let mut size: usize = 64;
+        while from < 9223372036854775808 {
+            let seen = self.window(from, &mut buf[..size]);
+            rt.write_all(&buf[..seen.put])?;
+            if seen.left == 0 {
+                break;
+            }
+            from += size;
+            size = (2 * size).min(65536);
+        }
+        Ok(())
+    }
 }
 
 fn main(rt: HostRuntime) -> io::Result<()> {
@@ -79,7 +60,14 @@ fn main(rt: HostRuntime) -> io::Result<()> {
     let mut cells = [0u32; 16384];
     let mut answers = [0u32; 16384];
     let mut codes = [0u8; 4096];
-    let ran = run::entry::run(&input[..n], &mut rows, &mut cells, &mut answers);
+    let run = run::entry::run(&input[..n], &mut rows, &mut cells, &mut answers);
     syntax::call_codes(&input[..n], &mut codes);
-    show(&rt, ran, &codes, &answers, &rows, &cells)
+    let left = Left {
+        run,
+        codes: &codes,
+        answers: &answers,
+        rows: &rows,
+        cells: &cells,
+    };
+    left.show(&rt)
 }
