@@ -133,7 +133,10 @@ fn unread() -> io::Error {
 }
 
 // A number of a case, in decimal.
-fn number<N: FromStr>(word: Option<&str>) -> io::Result<N> {
+fn number<N: FromStr>(word: Option<&str>) -> io::Result<N>
+where
+    N::Err: Drop,
+{
     word.and_then(|word| word.parse().ok()).ok_or_else(unread)
 }
 

@@ -37,20 +37,22 @@ struct Head {
 impl Head {
     // The next head of standard input, if there is one more.
     fn read(rt: &impl Input) -> io::Result<Option<Head>> {
-        let mut head = [0u8; 52];
-        if stdio::read_full(rt, &mut head)? < 52 {
+        let mut name = [0u8; 28];
+        let mut words = [0u8; 24];
+        if stdio::read_full(rt, &mut name)? < name.len() {
             return Ok(None);
         }
-        let mut name = [0u8; 28];
-        name.copy_from_slice(&head[..28]);
+        if stdio::read_full(rt, &mut words)? < words.len() {
+            return Ok(None);
+        }
         Ok(Some(Head {
             name,
-            rows: word(&head, 28),
-            cells: word(&head, 32),
-            answers: word(&head, 36),
-            bytes: word(&head, 40),
-            stored: word(&head, 44),
-            text: word(&head, 48),
+            rows: word(&words, 0),
+            cells: word(&words, 4),
+            answers: word(&words, 8),
+            bytes: word(&words, 12),
+            stored: word(&words, 16),
+            text: word(&words, 20),
         }))
     }
 
@@ -69,11 +71,11 @@ impl Head {
     }
 }
 
-// The word at an offset of a head, low byte first.
-fn word(head: &[u8; 52], at: usize) -> usize
-    requires { at + 4 ≤ 52 }
+// The word at an offset, low byte first.
+fn word(words: &[u8; 24], at: usize) -> usize
+    requires { at + 4 ≤ 24 }
 {
-    u32::from_le_bytes([head[at], head[at + 1], head[at + 2], head[at + 3]]) as usize
+    u32::from_le_bytes([words[at], words[at + 1], words[at + 2], words[at + 3]]) as usize
 }
 
 // A run, its calls' codes and what it left in the slices that it was lent.
@@ -105,7 +107,7 @@ impl Left {
     }
 
     // The text from `from` on, as far as the buffer has room; how many bytes came.
-    fn window(&self, from: usize, buf: &mut [u8; 16384]) -> View
+    fn window(&self, from: usize, buf: &mut [u8; PART]) -> View
         ensures { result.put ≤ 16384 }
     {
         text::window(

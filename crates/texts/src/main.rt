@@ -2,6 +2,8 @@
 // of every kind, whole and piece by piece; then how much is left of a short text and of one that nobody could print.
 #![tactic(auto)]
 
+ghost use Rattle.std.specs.Prelude.{◌≤◌};
+
 use ran::Ran;
 use std::io;
 use text::{Piece, View};
@@ -92,7 +94,7 @@ fn one_call<'a>(answers: &'a [u32], cells: &'a [u32]) -> Left<'a> {
     }
 }
 
-fn left(rt: &impl Print) -> io::Result<()> {
+fn measures(rt: &impl Print) -> io::Result<()> {
     let cells = nested();
     // What is left of `0 0 0 nat 1` and the line's end, twelve bytes.
     let short = one_call(&[0, 0, 0, 1], cells.as_flattened());
@@ -210,5 +212,5 @@ fn main(rt: HostRuntime) -> io::Result<()> {
     first(&rt)?;
     early(&rt)?;
     every(&rt)?;
-    left(&rt)
+    measures(&rt)
 }
