@@ -127,7 +127,7 @@ fn past(words: &[u32], used: usize) -> &'static str {
     }
 }
 
-// What there is no number for.
+// The error of a case that cannot be read.
 fn unread() -> io::Error {
     ErrorKind::InvalidData.into()
 }
