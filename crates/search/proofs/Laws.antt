@@ -8,11 +8,6 @@ use native.Mathlib.Omega.{arith}
 use Rattle.std.specs.Prelude.{Some, None}
 use Rattle.ast.specs.Cells.{last_of}
 use Rattle.search.specs.declared.plain.Wanted.{Wanted}
-use Rattle.std.specs.Prelude.{◌⊎◌}
-use Rattle.std.proofs.Common.{inl, inr}
-use Rattle.rules.specs.declared.Sort.{Sort}
-use Rattle.rules.specs.declared.Sort.TheVariants.{Term, Interval, Context}
-use Rattle.search.specs.Alike.{cell_word, both_lower, part_at}
 use Rattle.search.specs.Plain.{row_is, scan_rows}
 use Rattle.search.specs.Indexing.{index_row, indexed}
 
@@ -45,10 +40,3 @@ pub last_none : (t : ℕ → Bool) (i : ℕ) → i ≤ 0 → last_of t i ≡ Non
 unfolding last_of
 last_none t zero l = refl
 last_none t (suc i) l = absurd (let z : ⊥ = omega arith in z)
-
--- a part by its sort: terms, intervals and contexts are cells
-
-pub part_cells : (same : ℕ → ℕ → Bool) (C : List ℕ) (sort : Sort) (w i j : ℕ) → (sort ≡ Term) ⊎ ((sort ≡ Interval) ⊎ (sort ≡ Context)) → part_at same C sort w i j ≡ both_lower same i j (cell_word C i w) (cell_word C j w)
-part_cells same C sort w i j (inl e) = rw e
-part_cells same C sort w i j (inr (inl e)) = rw e
-part_cells same C sort w i j (inr (inr e)) = rw e

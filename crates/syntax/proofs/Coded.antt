@@ -34,13 +34,6 @@ one_more {bytes} {whole} {codes} {many} {at} {i} l h = go l.there (omega (arith,
     go (no_more e) k = absurd (let z : ⊥ = omega arith in z)
     go (next_call c more) k = omega (arith, c.far, c.inside)
 
-pub all_stored : {bytes whole codes : List ℕ} {many at i : ℕ} → Left bytes whole codes many at i → many ≤ i → codes ≡ whole
-all_stored {bytes} {whole} {codes} {many} {at} {i} l h = go l.calls l.same (omega (arith, l.count))
-  where
-    go : (calls : List Call) → whole ≡ sets codes i (codes_of calls) → length calls ≡ 0 → codes ≡ whole
-    go [] e k = sym e
-    go (call ∷ calls) e k = absurd (let z : ⊥ = omega arith in z)
-
 -- One turn: the code of the call at the offset is stored, and the offset past it is found.
 pub turn : (t : Bool) (bytes whole codes : List ℕ) (many at i p : ℕ) → Left bytes whole codes many at i → at < length bytes → Ok p ≡ next_in t (call_at bytes at) → Left bytes whole (set codes i (get_or bytes at 0)) many p (i + 1)
 turn t bytes whole codes many at i p l h e = go (first_call l.there h) (past_call t bytes at p e)
