@@ -7,18 +7,23 @@ UNFOLD = {
     'ctx': 'known_row known_or ctx_cons',
     'expose': 'retyped',
     'infer': 'new_infer',
-    'find': 'find_compound',
+    'find': 'find_compound up',
     'app': 'as_pi',
     'papp': 'as_path',
     'fst': 'as_sigma',
     'snd': 'as_sigma',
     'reduce': 'fst_beta snd_beta as_sigma',
-    'path': 'path_ends',
-    'plam': 'plam_ends',
+    'path': 'path_ends up',
+    'plam': 'plam_ends up',
+    'under': 'up',
+    'under_subst': 'up',
     'pair': 'pair_typed',
     'line': 'at_ends as_path',
     'equal': 'equal_normal',
 }
+
+# Those of them that another crate defines: that value which the check computes.
+OTHERS = {'up': 'Rattle.ast.specs.Words'}
 
 # What is never unfolded: laws speak of it.
 SHUT = ('callees', 'rounds', 'built', 'scoped')
@@ -35,8 +40,8 @@ EQUATIONS = {'==': ('eq-eqb', 'ne_eqb'), '!=': ('ne_eqb', 'eq-eqb'), '<': ('lt-l
 NUMBER = {'compound': 'args.cell.kind', 'line': 'read.result.kind', 'build': 'parts-shape.result'}
 KIND = 'read-cell.result.kind'
 
-# Laws to rewrite by before a call, by its name.
-BEFORE = {'ended': 'law.ended_end _ _'}
+# Laws to rewrite by before a call, by its name or that of its step.
+BEFORE = {'ended': 'law.ended_end _ _', 'max-top': 'law.greater_is _ _', 'max-2': 'law.greater_is _ _'}
 
 # Calls whose contract says what the result is, where the goal has the result.
 DIRECT = ('refused',)

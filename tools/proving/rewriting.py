@@ -58,7 +58,7 @@ def entries(name, function, steps, arms):
         elif kind in DIRECT:
             out.append(at + '.ensures')
         elif 'ensures' in fields:
-            out += [BEFORE[kind]] if kind in BEFORE else []
+            out += [BEFORE[name] for name in dict.fromkeys((kind, step)) if name in BEFORE]
             out.append('← %s.ensures' % at)
         if number.startswith(step + '.'):
             out += ['ne_eqb _ _ (let n : c.%s ≡ %d → ⊥ = omega arith in n)' % (number, arm) for arm in others]

@@ -4,7 +4,7 @@ import glob
 import os
 import re
 
-from .answers import SHUT, UNFOLD
+from .answers import OTHERS, SHUT, UNFOLD
 
 # Attributes, indentation, name and contract.
 FUNCTION = re.compile(r'((?: *#\[.*\]\n)*)( *)(?:pub(?:\(crate\))? )?fn (\w+)\([^{]*?(?:ensures \{(.*)\}|\{)')
@@ -67,7 +67,7 @@ class Crate:
         out = {word: function.named[word] for word in said if word in unfoldable(function.named.get(word, '')) and word not in SHUT}
         if entered and entered[0] + '_body' in own:
             out[entered[0] + '_body'] = own[entered[0] + '_body']
-        out.update({word: own[word] for word in UNFOLD.get(name, '').split()})
+        out.update({word: OTHERS.get(word) or own[word] for word in UNFOLD.get(name, '').split()})
         if 'over' in said:
             names, steps = self.steps()
             out = {word: module for word, module in out.items() if word not in steps}

@@ -161,8 +161,9 @@ emit_as n l j = emit_words n l (words_of j)
 def _():
     out = []
     for k in RULED:
-        out += ['kinds::%s => by_op(' % constant(k.word), '    op,']
-        out += ['    Rule::%s,' % camel('%s.%s' % (t, k.tag)) for t in TRANSFORMS] + ['),']
+        items = ['op'] + ['Rule::' + camel('%s.%s' % (t, k.tag)) for t in TRANSFORMS]
+        line = 'kinds::%s => by_op(%s),' % (constant(k.word), ', '.join(items))
+        out += [line] if len(', '.join(items)) <= 60 else ['kinds::%s => by_op(' % constant(k.word)] + ['    %s,' % item for item in items] + ['),']
     return out
 
 

@@ -24,7 +24,7 @@ def _():
     out = []
     for k in TAKEN:
         words = ', '.join('cell.' + w for w in 'abc'[:len(k.parts)])
-        out += ['kinds::%s => {' % k.word.upper(), '    return Shape::%s(%s);' % (variant(k), words), '}']
+        out.append('kinds::%s => Shape::%s(%s),' % (k.word.upper(), variant(k), words))
     return out
 
 

@@ -144,9 +144,8 @@ for_both(FUEL, 'an %s that fits', fits)
 # ---- parts.rt: the same as a match on the byte
 
 SOURCE = 'crates/syntax/src/parts.rt'
-MAKES = ['none', 'one', 'two', 'three']
 for_both(SOURCE, 'parts of an %s',
-         lambda k, sort: '%d => %s(%s),' % (k.byte, MAKES[len(k.parts)], ', '.join(PART[p.sort].upper() for p in k.parts)))
+         lambda k, sort: '%d => Some(&[%s]),' % (k.byte, ', '.join('Part::' + PART[p.sort].capitalize() for p in k.parts)))
 
 
 # ---- calls.rt: the codes of calls. Told, Heads: the number of each, and that it stands there in the reader's table
@@ -155,16 +154,52 @@ HIGHEST = max(c.code for c in CALLS)
 HEADS = SPECS + 'Heads.antt'
 
 
+def variant(c):
+    return c.name.capitalize()
+
+
+def arms(line):
+    return '\n'.join(' ' * 12 + line(c) for c in CALLS)
+
+
 @whole('crates/syntax/src/calls.rt')
 def _():
-    codes = '\n\n'.join('pub const %s: u8 = %d;' % (c.name.upper(), c.code) for c in CALLS)
+    variants = '\n'.join('    %s = %d,' % (variant(c), c.code) for c in CALLS)
+    of = arms(lambda c: '%d => Some(Code::%s),' % (c.code, variant(c)))
+    terms = arms(lambda c: 'Code::%s => %d,' % (variant(c), len(c.terms)))
     return f'''// The codes of calls: docs/FORMAT.md.
 // {NOTE}
+ghost use Rattle.std.specs.Prelude.{{◌≡◌, get_or}};
+ghost use Rattle.std.proofs.Math.Option.{{none}};
+ghost use Rattle.walk.specs.Reader.{{codes, terms_of}};
+ghost use Rattle.syntax.specs.Told.{{code_of, code_in}};
 
-{codes}
+#[derive(Clone, Copy, Debug, PartialEq, Eq)]
+pub enum Code {{
+{variants}
+}}
 
-// No code is higher.
-pub const HIGHEST: u8 = {HIGHEST};
+impl Code {{
+    // The code that this byte is.
+    #[tactic(auto, unfolding(crate::specs::Told::code_in))]
+    pub fn of(byte: u8) -> Option<Code>
+        ensures {{ result ≡ code_in (get_or codes byte none) }}
+    {{
+        match byte {{
+{of}
+            _ => None,
+        }}
+    }}
+
+    // How many terms follow the context of a call with this code.
+    pub fn terms(self) -> usize
+        ensures {{ result ≡ terms_of (code_of self) }}
+    {{
+        match self {{
+{terms}
+        }}
+    }}
+}}
 '''
 
 
@@ -179,14 +214,15 @@ def for_codes(path, name, line, *more):
 
 @section(SPECS + 'Told.antt', 'numbers of codes')
 def _():
-    return ['code_number c_%s = %d' % (c.name, c.code) for c in CALLS] + ['', 'abbrev pub highest_code : ℕ', 'highest_code = %d' % HIGHEST]
+    return (['code_number c_%s = %d' % (c.name, c.code) for c in CALLS]
+            + ['', 'abbrev pub highest_code : ℕ', 'highest_code = %d' % HIGHEST])
 
+
+for_codes(SPECS + 'Told.antt', 'codes told', lambda c: 'code_told c_%s = %s' % (c.name, variant(c)))
+for_codes(SPECS + 'Told.antt', 'codes of the program', lambda c: 'code_of %s = c_%s' % (variant(c), c.name))
 
 for_codes(HEADS, 'codes by number', lambda c: 'is_code %s h = record { code = _; here = refl; number = refl }' % number(c.code),
           'is_code %s h = absurd (let z : ⊥ = omega arith in z)' % number(HIGHEST + 1, 'n'))
 for_codes(HEADS, 'terms by code', lambda c: 'terms_in_code c_%s = refl' % c.name)
 for_codes(HEADS, 'few terms', lambda c: 'few_terms (some c_%s) = omega arith' % c.name)
-
-# ---- scan.rt: how many terms follow each code, as a match on the code
-
-for_codes('crates/syntax/src/scan.rt', 'terms of a call', lambda c: 'calls::%s => %d,' % (c.name.upper(), len(c.terms)))
+for_codes(HEADS, 'codes again', lambda c: 'code_again c_%s = refl' % c.name)

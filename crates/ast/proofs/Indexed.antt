@@ -1,45 +1,43 @@
 -- Every used entry lies on the path of its own key's hash: then a search along a path finds what a search through all finds, and the
 -- entry that comes is linked at the end of its path. Assumes nothing.
-use Rattle.std.specs.Prelude.{◌≡◌, ℕ, zero, suc, ◌+◌, ◌<◌, ◌≤◌, Bool, true, false, List, ◌≢◌, nat_lt, slice_index, slice_index_or}
+use Rattle.std.specs.Prelude.{◌≡◌, ℕ, zero, suc, ◌+◌, ◌<◌, ◌≤◌, Bool, true, false, List, ◌≢◌, nat_lt, slice_index, slice_index_or, Some, None}
 use Rattle.std.proofs.Math.Path.{refl}
 use Rattle.std.proofs.Common.{sym, ◌∙◌}
 use native.Mathlib.Omega.{arith}
 use Rattle.std.proofs.Math.Decide.{ℕ_discrete}
 use borrow.Author.Tests.{ltb-true, ltb-false, lt-ltb}
 use Rattle.ast.specs.Words.{ifb}
-use Rattle.ast.specs.Cells.{or_else, first_of, last_of}
+use Rattle.ast.specs.Cells.{Found, or_else, first_of, last_of}
 use Rattle.ast.specs.Index.{after, onward, first_on, last_on, end_on}
 use Rattle.ast.specs.Paths.{after_rises, after_most, first_step, first_end, last_step, last_end, place_step, place_end}
-use Rattle.ast.specs.declared.cells.Found.{Found}
-use Rattle.ast.specs.declared.cells.Found.TheVariants.{At, Nothing}
 use Rattle.ast.specs.Indexed.{On, ends, goes, Index, Lowest, lowest_at, no_lowest, Highest, highest_at, no_highest, Reaches}
 
 module _ (t : ℕ → Bool) where
-  none_first : (n : ℕ) → ((k : ℕ) → k < n → t k ≡ false) → first_of t n ≡ Nothing
+  none_first : (n : ℕ) → ((k : ℕ) → k < n → t k ≡ false) → first_of t n ≡ None
   unfolding first_of
   none_first zero h = refl
   none_first (suc n) h = rw (none_first n (λ k l. h k (omega arith)), h n (omega arith))
 
-  first_here : (n m : ℕ) → m < n → t m ≡ true → ((k : ℕ) → k < m → t k ≡ false) → first_of t n ≡ At m
+  first_here : (n m : ℕ) → m < n → t m ≡ true → ((k : ℕ) → k < m → t k ≡ false) → first_of t n ≡ Some m
   unfolding first_of
   first_here zero m l e h = absurd (let z : ⊥ = omega arith in z)
   first_here (suc n) m l e h = go (first_here n m) (ℕ_discrete m n)
     where
-      go : (m < n → t m ≡ true → ((k : ℕ) → k < m → t k ≡ false) → first_of t n ≡ At m) → Dec (m ≡ n) → or_else (first_of t n) (ifb (t n) (At n) Nothing) ≡ At m
+      go : (m < n → t m ≡ true → ((k : ℕ) → k < m → t k ≡ false) → first_of t n ≡ Some m) → Dec (m ≡ n) → or_else (first_of t n) (ifb (t n) (Some n) None) ≡ Some m
       go ih (yes q) = rw (← q, none_first m h, e)
       go ih (no q) = rw (ih (omega arith) e h)
 
-  none_last : (n : ℕ) → ((k : ℕ) → k < n → t k ≡ false) → last_of t n ≡ Nothing
+  none_last : (n : ℕ) → ((k : ℕ) → k < n → t k ≡ false) → last_of t n ≡ None
   unfolding last_of
   none_last zero h = refl
   none_last (suc n) h = rw (h n (omega arith), none_last n (λ k l. h k (omega arith)))
 
-  last_here : (n m : ℕ) → m < n → t m ≡ true → ((k : ℕ) → m < k → k < n → t k ≡ false) → last_of t n ≡ At m
+  last_here : (n m : ℕ) → m < n → t m ≡ true → ((k : ℕ) → m < k → k < n → t k ≡ false) → last_of t n ≡ Some m
   unfolding last_of
   last_here zero m l e h = absurd (let z : ⊥ = omega arith in z)
   last_here (suc n) m l e h = go (last_here n m) (ℕ_discrete m n)
     where
-      go : (m < n → t m ≡ true → ((k : ℕ) → m < k → k < n → t k ≡ false) → last_of t n ≡ At m) → Dec (m ≡ n) → ifb (t n) (At n) (last_of t n) ≡ At m
+      go : (m < n → t m ≡ true → ((k : ℕ) → m < k → k < n → t k ≡ false) → last_of t n ≡ Some m) → Dec (m ≡ n) → ifb (t n) (Some n) (last_of t n) ≡ Some m
       go ih (yes q) = rw (← q, e)
       go ih (no q) = rw (h n (omega arith) (omega arith), ih (omega arith) e (λ k a b. h k a (omega arith)))
 
@@ -115,7 +113,7 @@ module _ (slot : ℕ → ℕ → ℕ) (rest : ℕ → ℕ) (W : List ℕ) (n : �
     first_lowest zero i h l a = rw (first_end slot rest W n t i h (omega arith)) (no_lowest (λ k p q. absurd (let z : ⊥ = omega arith in z)))
     first_lowest (suc f) i h l a = go (nat_lt i n) refl (λ p. first_lowest f (next i h) (rest h) (let r = after_rises n i (child i h) p in omega arith) (all_down i h p a))
       where
-        at : i < n → (b : Bool) → t i ≡ b → Lowest t (next i h) n (first t (next i h) (rest h)) → Lowest t i n (ifb b (At i) (first t (next i h) (rest h)))
+        at : i < n → (b : Bool) → t i ≡ b → Lowest t (next i h) n (first t (next i h) (rest h)) → Lowest t i n (ifb b (Some i) (first t (next i h) (rest h)))
         at p true e r = lowest_at {m = i} (omega arith) p e (λ k x y. absurd (let z : ⊥ = omega arith in z))
         at p false e r = lower t (let r = after_rises n i (child i h) p in omega arith) (λ k x y. skip k x y (ℕ_discrete k i)) r
           where
@@ -138,7 +136,7 @@ module _ (slot : ℕ → ℕ → ℕ) (rest : ℕ → ℕ) (W : List ℕ) (n : �
             by true e = let z = ltb-true k j e in between i h a k x y (omega arith)
             by false e = g k (ltb-false k j e) y
 
-        at : i < n → (b : Bool) → t i ≡ b → {r : Found} → Highest t (next i h) n r → Highest t i n (or_else r (ifb b (At i) Nothing))
+        at : i < n → (b : Bool) → t i ≡ b → {r : Found} → Highest t (next i h) n r → Highest t i n (or_else r (ifb b (Some i) None))
         at p b e (highest_at {m = m} x y z g) = let r = after_rises n i (child i h) p in highest_at {m = m} (omega arith) y z g
         at p true e (no_highest g) = highest_at {m = i} (omega arith) p e (above _ refl g)
         at p false e (no_highest g) = no_highest (λ k x y. skip k x y (ℕ_discrete k i))

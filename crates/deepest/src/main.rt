@@ -2,60 +2,29 @@
 // `python3 tools/edges.py deep` writes, is one call that meets the nesting limit of 4,096; the tables have just the rows and the cells
 // that it uses up to there: a row or a cell less, and it would be 18 or 20.
 //
-// Stack: 3.7 MB for the tables and 3.0 MB for 4,096 levels of nesting.
+// Memory: 3.7 MB for the tables, on the heap, and 3.0 MB of stack for 4,096 levels of nesting.
 #![tactic(auto)]
 
 use std::io;
 
-fn say(rt: &impl Print, s: &[u8]) -> io::Result<()> {
-    rt.write_all(s)
-}
+// The rows and the cells that the run uses.
+const ROWS: usize = 32401;
 
-fn shown(rt: &impl Print, n: u32) -> io::Result<()> {
-    rt.print(n)?;
-    say(rt, b" ")
-}
-
-// A word of the answers.
-fn answer(rt: &impl Print, answers: &[u32], i: usize) -> io::Result<()> {
-    if i < answers.len() {
-        shown(rt, answers[i])?;
-    }
-    Ok(())
-}
-
-fn play(
-    rt: &impl Print,
-    bytes: &[u8],
-    rows: &mut [u32],
-    cells: &mut [u32],
-    answers: &mut [u32],
-) -> io::Result<()> {
-    let ran = run::entry::run(bytes, rows, cells, answers);
-    say(rt, b"number place calls rows cells\n")?;
-    shown(rt, ran.number)?;
-    shown(rt, ran.place)?;
-    shown(rt, ran.calls)?;
-    shown(rt, ran.rows)?;
-    shown(rt, ran.cells)?;
-    say(rt, b"\nnumber row result deepest\n")?;
-    answer(rt, answers, 0)?;
-    answer(rt, answers, 1)?;
-    answer(rt, answers, 2)?;
-    answer(rt, answers, 3)?;
-    say(rt, b"\n")
-}
-
-// A table in a function of its own: the checker does not take apart what it is full of.
-fn table() -> [u32; 777624] {
-    [0u32; 777624]
-}
+const CELLS: usize = 19723;
 
 fn main(rt: HostRuntime) -> io::Result<()> {
     let mut input = [0u8; 2048];
     let n = stdio::read_full(&rt, &mut input)?;
-    let mut rows = table();
-    let mut cells = [0u32; 157784];
+    let mut rows = vec![in rt.alloc(); 0u32; 24 * ROWS]?;
+    let mut cells = vec![in rt.alloc(); 0u32; 8 * CELLS]?;
     let mut answers = [0u32; 4];
-    play(&rt, &input[..n], &mut rows, &mut cells, &mut answers)
+    let ran = run::entry::run(&input[..n], &mut rows, &mut cells, &mut answers);
+    println!(rt; "number place calls rows cells")?;
+    println!(rt;
+        "{} {} {} {} {} ",
+        ran.number, ran.place, ran.calls, ran.rows, ran.cells
+    )?;
+    println!(rt; "number row result deepest")?;
+    let [number, row, result, deepest] = answers;
+    println!(rt; "{number} {row} {result} {deepest} ")
 }

@@ -6,345 +6,169 @@
 // stayed, in the row table, the cell store and the answers, also where the run is refused and none is used; and the last eight
 // calls' lines as the listing has them. All words are first filled with one that no run stores.
 //
-// Stack: the tables of 50,000 rows take 6.0 MB of it, and the compiler gives all cases one frame of that size. The run `deep` of
-// tools/edges.py meets the limit 4,096 too, and takes 3.0 MB for that: it stands here with the limit 1,024, which takes 0.9 MB.
+// The tables are on the heap, and up to 6.0 MB. The run `deep` of tools/edges.py meets the limit 4,096 too, and takes 3.0 MB of stack
+// for that: it stands here with the limit 1,024, which takes 0.9 MB.
 #![tactic(auto)]
 
-use lines::repeats;
 use ran::Ran;
-use std::io;
-use text::Piece;
+use std::alloc::{AllocError, Global};
+use std::io::{self, ErrorKind};
+use std::str::FromStr;
+use text::{Calls, Piece, Table, Words};
 
 // The word that slices hold before a run.
 const FILL: u32 = 2863311530;
 
+// How many words each table has past those that are lent.
+const PAST: usize = 8192;
+
+// More calls than any run has.
+const CALLS: usize = 21846;
+
 // The words of each slice that a case lends.
 #[derive(Clone, Copy)]
 struct Lent {
-    rows: usize,
-    cells: usize,
-    answers: usize,
+    rows: u32,
+    cells: u32,
+    answers: u32,
 }
 
-// A number in the cases, and the offset past it.
-#[derive(Clone, Copy)]
-struct Read {
-    value: usize,
-    next: usize,
+// A run, its calls' codes and what it left, in tables of which it was lent a part.
+#[derive(Drop)]
+struct Left {
+    run: Ran,
+    codes: Vec<u8>,
+    answers: Vec<u32>,
+    rows: Vec<u32>,
+    cells: Vec<u32>,
 }
 
-fn say(rt: &impl Print, s: &[u8]) -> io::Result<()> {
-    rt.write_all(s)
-}
-
-fn shown(rt: &impl Print, n: usize) -> io::Result<()> {
-    say(rt, b" ")?;
-    rt.print(n)
-}
-
-// The byte at an offset, and the end of a line past the end.
-fn byte(s: &[u8], at: usize) -> u8 {
-    if at < s.len() { s[at] } else { 10 }
-}
-
-// The next offset.
-fn after(at: usize) -> usize {
-    if at < 4294967296 { at + 1 } else { at }
-}
-
-// The number in decimal at an offset, its last seven digits at most, and the offset past it.
-fn number(s: &[u8], from: usize) -> Read {
-    let mut value: usize = 0;
-    let mut at = from;
-    while at < s.len() {
-        let b = s[at];
-        if b < 48 {
-            return Read { value, next: at };
-        }
-        if 57 < b {
-            return Read { value, next: at };
-        }
-        value = (value * 10 + (b - 48) as usize) % 10000000;
-        at += 1;
+impl Left {
+    // Plays a run, with so many words of each slice.
+    fn play(alloc: Global, lent: Lent, bytes: &[u8]) -> Result<Left, AllocError> {
+        let lent_rows = lent.rows as usize;
+        let lent_cells = lent.cells as usize;
+        let lent_answers = lent.answers as usize;
+        let mut rows = vec![in alloc; FILL; lent_rows + PAST]?;
+        let mut cells = vec![in alloc; FILL; lent_cells + PAST]?;
+        let mut answers = vec![in alloc; FILL; lent_answers + PAST]?;
+        let mut codes = vec![in alloc; 0; CALLS]?;
+        let run = run::entry::run(
+            bytes,
+            &mut rows[..lent_rows],
+            &mut cells[..lent_cells],
+            &mut answers[..lent_answers],
+        );
+        syntax::call_codes(bytes, &mut codes);
+        Ok(Left {
+            run,
+            codes,
+            answers,
+            rows,
+            cells,
+        })
     }
-    Read { value, next: at }
-}
 
-// The offset of the first `stop` or end of a line from an offset on.
-fn find(s: &[u8], from: usize, stop: u8) -> usize {
-    let mut at = from;
-    while at < s.len() {
-        let b = s[at];
-        if b == stop {
-            return at;
+    // The words that the listing is made of.
+    fn words(&self) -> Words<'_> {
+        Words {
+            run: self.run,
+            calls: Calls {
+                codes: &self.codes,
+                answers: &self.answers,
+            },
+            table: Table {
+                rows: &self.rows,
+                cells: &self.cells,
+            },
         }
-        if b == 10 {
-            return at;
-        }
-        at += 1;
     }
-    at
-}
 
-// Stores a byte at `n`, where there is room; the length then.
-fn put(out: &mut [u8], n: usize, value: usize) -> usize {
-    if n < out.len() {
-        out[n] = (value % 256) as u8;
-        return n + 1;
-    }
-    n
-}
-
-// Stores `count` bytes from `n` on, each the one that stands `back` before it; the length then.
-fn again(out: &mut [u8], n: usize, back: usize, count: usize) -> usize {
-    let mut at = n;
-    let mut left = count;
-    while 0 < left {
-        if out.len() <= at {
-            return at;
+    // What the run answered, whether the words past those that it used stayed, and the lines of its last eight calls.
+    fn report(&self, rt: &impl Print) -> io::Result<()> {
+        let Ran {
+            number,
+            place,
+            calls,
+            rows,
+            cells,
+        } = self.run;
+        let words = self.words();
+        let repeats = words.calls.repeats(calls);
+        print!(rt; "run {number} {place} {calls} {rows} {cells} {repeats}")?;
+        let rows = past(&self.rows, 24 * rows as usize);
+        let cells = past(&self.cells, 8 * cells as usize);
+        let answers = past(&self.answers, 4 * calls as usize);
+        println!(rt; " {rows} {cells} {answers}")?;
+        for i in calls.saturating_sub(8)..calls {
+            let mut buf = [0u8; 4096];
+            let seen = words.window(Piece::CallLine(i), 0, 0, &mut buf);
+            print!(rt; "call ")?;
+            rt.write_all(&buf[..seen.put])?;
         }
-        if at < back {
-            return at;
-        }
-        out[at] = out[at - back];
-        at += 1;
-        left -= 1;
-    }
-    at
-}
-
-// The token after the blank at an offset: a byte, or so many more, each the one that stands so far before it. The length then, and
-// the offset past the token.
-fn token(s: &[u8], at: usize, out: &mut [u8], n: usize) -> Read {
-    let a = number(s, after(at));
-    if byte(s, a.next) == 42 {
-        let b = number(s, after(a.next));
-        return Read {
-            value: again(out, n, a.value, b.value),
-            next: b.next,
-        };
-    }
-    Read {
-        value: put(out, n, a.value),
-        next: a.next,
+        Ok(())
     }
 }
 
-// The bytes of the tokens from an offset on, to the end of the line; how many.
-fn bytes_of(s: &[u8], from: usize, out: &mut [u8]) -> usize {
-    let mut at = from;
-    let mut n: usize = 0;
-    let mut turns: usize = 65536;
-    while 0 < turns {
-        if byte(s, at) != 32 {
-            return n;
-        }
-        let t = token(s, at, out, n);
-        n = t.value;
-        at = t.next;
-        turns -= 1;
-    }
-    n
-}
-
-// Whether the words from an offset on are the one that all were filled with.
-fn stay(s: &[u32], from: usize) -> bool {
-    let mut at = from;
-    while at < s.len() {
-        if s[at] != FILL {
-            return false;
-        }
-        at += 1;
-    }
-    true
-}
-
-// Prints whether the words past the used ones stayed.
-fn past(rt: &impl Print, s: &[u32], used: usize) -> io::Result<()> {
-    if stay(s, used) {
-        say(rt, b" stay")
+// Whether the words past the used ones are the one that all were filled with.
+fn past(words: &[u32], used: usize) -> &'static str {
+    if words.iter().skip(used).all(|word| *word == FILL) {
+        "stay"
     } else {
-        say(rt, b" changed")
+        "changed"
     }
 }
 
-// One call's line, as the listing has it.
-fn call(
-    rt: &impl Print,
-    run: Ran,
-    codes: &[u8],
-    answers: &[u32],
-    cells: &[u32],
-    i: u32,
-) -> io::Result<()> {
-    let mut buf = [0u8; 4096];
-    say(rt, b"call ")?;
-    let seen = text::window(
-        Piece::CallLine(i),
-        run,
-        codes,
-        answers,
-        &[0u32; 0],
-        cells,
-        0,
-        0,
-        &mut buf,
-    );
-    say(rt, &buf[..seen.put])
+// The error of a case that cannot be read.
+fn unread() -> io::Error {
+    ErrorKind::InvalidData.into()
 }
 
-// The lines of the last eight calls.
-fn calls(
-    rt: &impl Print,
-    run: Ran,
-    codes: &[u8],
-    answers: &[u32],
-    cells: &[u32],
-) -> io::Result<()> {
-    let most = run.calls;
-    let mut i = if most < 8 { 0 } else { most - 8 };
-    while i < most {
-        call(rt, run, codes, answers, cells, i)?;
-        i += 1;
-    }
-    Ok(())
+// A number of a case, in decimal.
+fn number<N: FromStr>(word: Option<&str>) -> io::Result<N>
+where
+    N::Err: Drop,
+{
+    word.and_then(|word| word.parse().ok()).ok_or_else(unread)
 }
 
-// What a run answered, and whether the words past those that it used stayed: of the whole arrays, of which it was lent a part.
-fn report(
-    rt: &impl Print,
-    run: Ran,
-    codes: &[u8],
-    rows: &[u32],
-    cells: &[u32],
-    answers: &[u32],
-) -> io::Result<()> {
-    say(rt, b"run")?;
-    shown(rt, run.number as usize)?;
-    shown(rt, run.place as usize)?;
-    shown(rt, run.calls as usize)?;
-    shown(rt, run.rows as usize)?;
-    shown(rt, run.cells as usize)?;
-    shown(rt, repeats::repeats(codes, answers, run.calls) as usize)?;
-    past(rt, rows, (run.rows as usize) * 24)?;
-    past(rt, cells, (run.cells as usize) * 8)?;
-    past(rt, answers, (run.calls as usize) * 4)?;
-    say(rt, b"\n")?;
-    calls(rt, run, codes, answers, cells)
-}
-
-// Plays a run, with so many words of each slice.
-fn play(
-    rt: &impl Print,
-    lent: Lent,
-    bytes: &[u8],
-    rows: &mut [u32],
-    cells: &mut [u32],
-    answers: &mut [u32],
-) -> io::Result<()> {
-    let mut codes = [0u8; 21846];
-    let r = lent.rows;
-    let c = lent.cells;
-    let a = lent.answers;
-    if rows.len() < r {
+// Adds what a word of the run's bytes stands for: a byte, or `K*N`, N more bytes, each the one that is K before it.
+fn add(bytes: &mut Vec<u8>, word: &str) -> io::Result<()> {
+    let Some((back, count)) = word.split_once('*') else {
+        bytes.push(number(Some(word))?)?;
         return Ok(());
-    }
-    if cells.len() < c {
-        return Ok(());
-    }
-    if answers.len() < a {
-        return Ok(());
-    }
-    let ran = run::entry::run(bytes, &mut rows[..r], &mut cells[..c], &mut answers[..a]);
-    syntax::call_codes(bytes, &mut codes);
-    report(rt, ran, &codes, rows, cells, answers)
-}
-
-// The tables of a case, of one of two sizes.
-fn in_small(rt: &impl Print, lent: Lent, bytes: &[u8]) -> io::Result<()> {
-    let mut rows = [FILL; 24576];
-    let mut cells = [FILL; 16384];
-    let mut answers = [FILL; 87384];
-    play(rt, lent, bytes, &mut rows, &mut cells, &mut answers)
-}
-
-// An array of so many words comes from a function: a proof that has it written out would have that many steps.
-fn large_rows() -> [u32; 1200048] {
-    [FILL; 1200048]
-}
-
-fn in_large(rt: &impl Print, lent: Lent, bytes: &[u8]) -> io::Result<()> {
-    let mut rows = large_rows();
-    let mut cells = [FILL; 305152];
-    let mut answers = [FILL; 2048];
-    play(rt, lent, bytes, &mut rows, &mut cells, &mut answers)
-}
-
-fn place(rt: &impl Print, lent: Lent, bytes: &[u8]) -> io::Result<()> {
-    if lent.rows <= 24576 {
-        return in_small(rt, lent, bytes);
-    }
-    in_large(rt, lent, bytes)
-}
-
-// Prints a case's name.
-fn name(rt: &impl Print, s: &[u8], from: usize, end: usize) -> io::Result<()> {
-    if end <= s.len() {
-        if from <= end {
-            say(rt, &s[from..end])?;
-            say(rt, b"\n")?;
-        }
-    }
-    Ok(())
-}
-
-// The case whose name starts at an offset.
-fn case(rt: &impl Print, s: &[u8], from: usize) -> io::Result<()> {
-    let mut out = [0u8; 65540];
-    let end = find(s, from, 32);
-    name(rt, s, from, end)?;
-    let rows = number(s, after(end));
-    let cells = number(s, after(rows.next));
-    let answers = number(s, after(cells.next));
-    let n = bytes_of(s, answers.next, &mut out);
-    let lent = Lent {
-        rows: rows.value,
-        cells: cells.value,
-        answers: answers.value,
     };
-    if n <= out.len() {
-        place(rt, lent, &out[..n])?;
+    let back: usize = number(Some(back))?;
+    for _ in 0..number::<usize>(Some(count))? {
+        let at = bytes.len().checked_sub(back).ok_or_else(unread)?;
+        let byte = bytes.get(at).copied().ok_or_else(unread)?;
+        bytes.push(byte)?;
     }
     Ok(())
 }
 
-// One line: a case, a comment or nothing; the offset of the next line.
-fn line(rt: &impl Print, s: &[u8], from: usize) -> io::Result<usize> {
-    let b = byte(s, from);
-    if b != 35 {
-        if b != 10 {
-            case(rt, s, from)?;
-        }
+fn case(rt: &(impl Print + AllocGlobal), line: &str) -> io::Result<()> {
+    let mut words = line.split(' ');
+    let name = words.next().unwrap_or("");
+    let lent = Lent {
+        rows: number(words.next())?,
+        cells: number(words.next())?,
+        answers: number(words.next())?,
+    };
+    let mut bytes = Vec::new(rt.alloc());
+    for word in words {
+        add(&mut bytes, word)?;
     }
-    Ok(after(find(s, from, 10)))
-}
-
-// All lines, 65,536 at most.
-fn all(rt: &impl Print, s: &[u8]) -> io::Result<()> {
-    let mut at: usize = 0;
-    let mut turns: usize = 65536;
-    while 0 < turns {
-        if s.len() <= at {
-            return Ok(());
-        }
-        at = line(rt, s, at)?;
-        turns -= 1;
-    }
-    Ok(())
+    println!(rt; "{name}")?;
+    Left::play(rt.alloc(), lent, &bytes)?.report(rt)
 }
 
 fn main(rt: HostRuntime) -> io::Result<()> {
-    let mut input = [0u8; 65536];
-    let n = stdio::read_full(&rt, &mut input)?;
-    all(&rt, &input[..n])
+    let cases = io::read_to_string(rt.alloc(), rt.reader())?;
+    for line in cases.lines() {
+        if !line.is_empty() && !line.starts_with('#') {
+            case(&rt, line)?;
+        }
+    }
+    Ok(())
 }

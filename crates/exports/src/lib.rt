@@ -3,7 +3,7 @@
 
 ghost use Rattle.exports.specs.Exports.{Exports};
 
-use ast::words::put;
+use ast::words::put_all;
 use run::entry::run as play;
 
 // Plays a run and writes number, place, calls, rows and cells to the first five words of `res`; does nothing at all where that is
@@ -21,9 +21,9 @@ pub fn run_derivations(
         return;
     }
     let ran = play(run, rows, cells, answers);
-    put(res, 0, ran.number);
-    put(res, 1, ran.place);
-    put(res, 2, ran.calls);
-    put(res, 3, ran.rows);
-    put(res, 4, ran.cells);
+    put_all(
+        res,
+        0,
+        &[ran.number, ran.place, ran.calls, ran.rows, ran.cells],
+    );
 }

@@ -1,5 +1,6 @@
 -- The number of repeats, over the answers' words and the calls' codes. Assumes nothing.
-use Rattle.std.specs.Prelude.{ℕ, zero, suc, ◌+◌, Bool, true, false, ◌&&◌, List, [], ◌∷◌, eqb}
+use Rattle.std.specs.Prelude.{ℕ, zero, suc, ◌+◌, Bool, true, false, ◌&&◌, List, [], ◌∷◌, eqb, reverse}
+use Rattle.std.specs.List.{list_any, range_with_len}
 use Rattle.lines.specs.Calls.{answer_word, code}
 
 -- An accepted call, by its code and its row.
@@ -34,14 +35,13 @@ repeats_after earlier (x ∷ xs) = occurs x earlier + repeats_after (x ∷ earli
 unfoldable pub repeats : List ℕ → List ℕ → ℕ → ℕ
 repeats codes A calls = repeats_after [] (accepted codes A 0 calls)
 
--- The same count by calls, as the function goes: the accepted before call i, the newest first, and whether call i repeats one.
-unfoldable pub before : List ℕ → List ℕ → ℕ → List Accepted
-before codes A zero = []
-before codes A (suc i) = with_call codes A i (before codes A i)
-
-unfoldable pub repeat : List ℕ → List ℕ → ℕ → ℕ
-repeat codes A i = elim (eqb (answer_word A i 0) 0) [ true ↦ occurs (call (code codes i) (answer_word A i 1)) (before codes A i) | false ↦ 0 ]
-
--- Whether call j is accepted, with this code and row.
+-- The same count by calls, as the function goes: whether call j is accepted, with this code and row; whether call i repeats one of those
+-- before it, the newest first.
 unfoldable pub is_call : List ℕ → List ℕ → ℕ → ℕ → ℕ → Bool
 is_call codes A j c row = elim (eqb (answer_word A j 0) 0) [ true ↦ same (call c row) (call (code codes j) (answer_word A j 1)) | false ↦ false ]
+
+abbrev pub seen : List ℕ → List ℕ → ℕ → ℕ → ℕ → Bool
+seen codes A c row i = list_any (λ j. is_call codes A j c row) (reverse (range_with_len 0 i))
+
+unfoldable pub is_repeat : List ℕ → List ℕ → ℕ → Bool
+is_repeat codes A i = eqb (answer_word A i 0) 0 && seen codes A (code codes i) (answer_word A i 1) i

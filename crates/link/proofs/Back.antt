@@ -1,11 +1,9 @@
 -- The words that stand for a state are its table's: each cell's, each row's and an answer's; and what is read back from them is the table.
-use Rattle.std.specs.Prelude.{ℕ, suc, ◌+◌, ◌*◌, ◌≤◌, ◌<◌, ◌≡◌, Bool, true, false, length, get_or, drop, take, ltb, T, List, [], ◌∷◌, ◌++◌}
+use Rattle.std.specs.Prelude.{ℕ, suc, ◌+◌, ◌*◌, ◌≤◌, ◌<◌, ◌≡◌, Bool, true, false, length, get_or, drop, take, ltb, T, List, [], ◌∷◌, ◌++◌, Some}
 use Rattle.std.proofs.Math.Path.{refl}
 use Rattle.std.proofs.Common.{sym, ap, ◌∙◌, subst, arith, add-zero, lt→ltb, lit<, append_assoc}
 use Rattle.std.proofs.Math.Option.{Option, none, some}
 use Rattle.std.proofs.Math.ListN.{get_or-append}
-use Rattle.ast.specs.declared.cells.Found.{Found}
-use Rattle.ast.specs.declared.cells.Found.TheVariants.{At}
 use Rattle.producer.specs.declared.rows.Refs.{Refs}
 use Rattle.producer.specs.Machine.{Machine}
 use Rattle.walk.specs.Syntax.{Interval, I0, I1, Dim, Neg, Meet, Join, Term, Universe, Var, Nat, Zero, Pi, Lam, App, Path, PathLam, PathApp, Sigma, Pair, Fst, Snd, Context, Nil, Cons, Quote, Quotes, quote, quotes}
@@ -25,6 +23,7 @@ use Rattle.link.specs.Store.{row_words as row_of}
 use Rattle.link.specs.Holds.{Before, Holds, part_of}
 use Rattle.link.specs.Table.{◌>>=◌, kind_word, part, lower, interval_by, quote_by, ckinds, context_by, interval_at, quote_at, context_at, below, an_interval, a_quote, a_context, no_reading, readings, concluding, read_ctx, read_dshiftctx, read_lookup, read_lt, read_le, read_max, read_interval, read_ishift, read_isubst, read_shift, read_subst, read_dshift, read_dsubst, read_has, read_eq, cited_at, row_at, table_at, four, cell_words, words_at, CellsWords, memory_words, MemoryWords, argument_word, RowWords, TableWords, result_word, Named}
 use Rattle.link.specs.Back.{reads, Lowest, SameWords, Inner, LineStays, Told}
+use Rattle.ast.specs.Cells.{Found}
 
 read_as : {rule : ℕ} {js : List Judgment} {j : Judgment} → Follows rule js j → concluding rule ≡ reads j
 read_as f = ap (λ (k : ℕ). get_or readings k no_reading) (sym (concludes f))
@@ -395,6 +394,6 @@ table_told h d = table_stays h h same same d
 pub memory_told : {o : Before} {w : Machine} {s : State} → Holds o w s → MemoryWords s w.cells
 memory_told {w = w} {s = s} h k before e = go (h.words.memory k) (cell_lift e (comes (inference k) before (h.words.distinct.once (inference k) before e))).found
   where
-    go : {f : Found} {p : Option (Term × ℕ)} → Kept s.cells w.cells f p → f ≡ At (length before) → (some (part 4 w.cells (length before)) ∷ some (part 5 w.cells (length before)) ∷ []) ≡ memory_words s.cells p
+    go : {f : Found} {p : Option (Term × ℕ)} → Kept s.cells w.cells f p → f ≡ Some (length before) → (some (part 4 w.cells (length before)) ∷ some (part 5 w.cells (length before)) ∷ []) ≡ memory_words s.cells p
     go no_memory q = let z : ◌≡◌ {A = ℕ} 0 1 = cc in absurd (omega arith)
     go (a_memory_at {n = m} c r) q = let i : m ≡ length before = cc in rw (← i, r, ← cell_is c)

@@ -1,11 +1,10 @@
 -- The cell of a thing is the one that `cell` finds, and the lowest cell with a quote is the one that `quoted` finds. Assumes nothing.
-use Rattle.std.specs.Prelude.{ℕ, ◌≡◌, Bool, true, false, length, List, [], ◌∷◌}
+use Rattle.std.specs.Prelude.{ℕ, ◌≡◌, Bool, true, false, length, List, [], ◌∷◌, Some, None}
 use Rattle.std.proofs.Math.Path.{refl}
 use Rattle.std.proofs.Common.{sym, ap, ◌∙◌, arith}
 use Rattle.std.proofs.Math.Option.{Option, none, some}
 use Rattle.ast.specs.Words.{ifb}
 use Rattle.ast.specs.Cells.{or_else}
-use Rattle.ast.specs.declared.cells.Found.TheVariants.{At, Nothing}
 use Rattle.walk.specs.State.{Thing}
 use Rattle.link.specs.Lists.{found_of, first}
 use Rattle.link.specs.Things.{Shown, is_thing, shows, or_this, lowest, cell, quoted, Cell, Low}
@@ -15,7 +14,7 @@ module _ (p : Thing → Bool) where
   or_else_this (some n) q = refl
   or_else_this none q = refl
 
-  one_found : (b : Bool) (n : ℕ) → found_of (elim b as (λ _. Option ℕ) [ true ↦ some n | false ↦ none ]) ≡ ifb b (At n) Nothing
+  one_found : (b : Bool) (n : ℕ) → found_of (elim b as (λ _. Option ℕ) [ true ↦ some n | false ↦ none ]) ≡ ifb b (Some n) None
   one_found true n = refl
   one_found false n = refl
 
@@ -24,14 +23,14 @@ module _ (p : Thing → Bool) where
   lowest_first [] = refl
   lowest_first (x ∷ xs) = or_else_this (lowest p xs) _ ∙ rw (lowest_first xs, one_found (p x) (length xs))
 
-  to_lowest : {n : ℕ} (xs : List Thing) → first p xs ≡ At n → some n ≡ lowest p xs
+  to_lowest : {n : ℕ} (xs : List Thing) → first p xs ≡ Some n → some n ≡ lowest p xs
   to_lowest {n} xs e = go (lowest p xs) (lowest_first xs ∙ e)
     where
-      go : (o : Option ℕ) → found_of o ≡ At n → some n ≡ o
+      go : (o : Option ℕ) → found_of o ≡ Some n → some n ≡ o
       go (some m) q = let k : n ≡ m = cc in ap some k
       go none q = let z : ◌≡◌ {A = ℕ} 0 1 = cc in absurd (omega arith)
 
-  from_lowest : {n : ℕ} (xs : List Thing) → some n ≡ lowest p xs → first p xs ≡ At n
+  from_lowest : {n : ℕ} (xs : List Thing) → some n ≡ lowest p xs → first p xs ≡ Some n
   from_lowest xs e = sym (ap found_of e ∙ lowest_first xs)
 
 pub cell_is : {n : ℕ} {x : Thing} {xs : List Thing} → Cell n x xs → some n ≡ cell xs x

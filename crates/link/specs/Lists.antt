@@ -1,6 +1,6 @@
 -- Searches and blocks: the two that the row table and the cell store are made of.
 -- A list has the newest first; its words have the oldest first, one block for each. Assumes nothing.
-use Rattle.std.specs.Prelude.{ℕ, ◌-◌, ◌+◌, ◌*◌, ◌≤◌, ◌<◌, Bool, get_or, drop, List, [], ◌∷◌, ◌++◌}
+use Rattle.std.specs.Prelude.{ℕ, ◌-◌, ◌+◌, ◌*◌, ◌≤◌, ◌<◌, Bool, get_or, drop, List, [], ◌∷◌, ◌++◌, Some, None}
 use Rattle.std.proofs.Math.Path.{◌≡◌, refl}
 use Rattle.std.proofs.Common.{sym, ap, ◌∙◌, subst, arith, length-append, get_or-append-add, get_or-drop, suc-mul, zero-mul, append_assoc}
 use Rattle.std.proofs.Math.Option.{Option, none, some}
@@ -9,23 +9,21 @@ use Rattle.std.proofs.Math.ListN.{length, get_or-append}
 use Rattle.std.proofs.lemmas.List.Edits.{sets, sets-eq}
 use Rattle.std.proofs.Math.Seq.{take-append_seam, drop-append-add}
 use Rattle.ast.specs.Words.{ifb}
-use Rattle.ast.specs.Cells.{or_else, first_of}
-use Rattle.ast.specs.declared.cells.Found.{Found}
-use Rattle.ast.specs.declared.cells.Found.TheVariants.{At, Nothing}
+use Rattle.ast.specs.Cells.{Found, or_else, first_of}
 
 abbrev pub yes? : {P : Type 0} → Dec P → Bool
 yes? (yes h) = true
 yes? (no h) = false
 
 abbrev pub found_of : Option ℕ → Found
-found_of (some n) = At n
-found_of none = Nothing
+found_of (some n) = Some n
+found_of none = None
 
 module _ {A : Type 0} where
   -- the number of the first that passes
   unfoldable pub first : (A → Bool) → List A → Found
-  first p [] = Nothing
-  first p (x ∷ xs) = or_else (first p xs) (ifb (p x) (At (length xs)) Nothing)
+  first p [] = None
+  first p (x ∷ xs) = or_else (first p xs) (ifb (p x) (Some (length xs)) None)
 
   pub data Nth (n : ℕ) (x : A) : List A → Type 0 where
     here : {xs : List A} → n ≡ length xs → Nth n x (x ∷ xs)
@@ -54,7 +52,7 @@ module _ {A : Type 0} where
   nth_unique (there h) (there k) = nth_unique h k
 
   -- what was found stays found
-  pub first_stays : (p : A → Bool) {xs ys : List A} {n : ℕ} → Extends xs ys → first p xs ≡ At n → first p ys ≡ At n
+  pub first_stays : (p : A → Bool) {xs ys : List A} {n : ℕ} → Extends xs ys → first p xs ≡ Some n → first p ys ≡ Some n
   unfolding first
   first_stays p same e = e
   first_stays p (more f) e = rw (first_stays p f e)
@@ -64,15 +62,15 @@ module _ {A : Type 0} where
     pub nth : Nth n one xs
     pub passes : p one ≡ true
 
-  pub first_passes : (p : A → Bool) (xs : List A) (n : ℕ) → first p xs ≡ At n → Passes p n xs
+  pub first_passes : (p : A → Bool) (xs : List A) (n : ℕ) → first p xs ≡ Some n → Passes p n xs
   unfolding first
   first_passes p [] n e = let z : ◌≡◌ {A = ℕ} 0 1 = cc in absurd (omega arith)
   first_passes p (x ∷ xs) n e = go (first p xs) (p x) refl refl (first_passes p xs n) e
     where
-      go : (o : Found) (b : Bool) → first p xs ≡ o → p x ≡ b → (first p xs ≡ At n → Passes p n xs) → or_else o (ifb b (At (length xs)) Nothing) ≡ At n → Passes p n (x ∷ xs)
-      go (At m) b g q ih f = let r = ih (g ∙ f) in record { one = r.one; nth = there r.nth; passes = r.passes }
-      go Nothing true g q ih f = let l : n ≡ length xs = cc in record { one = x; nth = here l; passes = q }
-      go Nothing false g q ih f = let z : ◌≡◌ {A = ℕ} 0 1 = cc in absurd (omega arith)
+      go : (o : Found) (b : Bool) → first p xs ≡ o → p x ≡ b → (first p xs ≡ Some n → Passes p n xs) → or_else o (ifb b (Some (length xs)) None) ≡ Some n → Passes p n (x ∷ xs)
+      go (Some m) b g q ih f = let r = ih (g ∙ f) in record { one = r.one; nth = there r.nth; passes = r.passes }
+      go None true g q ih f = let l : n ≡ length xs = cc in record { one = x; nth = here l; passes = q }
+      go None false g q ih f = let z : ◌≡◌ {A = ℕ} 0 1 = cc in absurd (omega arith)
 
   -- a search over numbers finds what a search over the list does
   pub first_found : (p : A → Bool) (t : ℕ → Bool) (xs : List A) → ((n : ℕ) (x : A) → Nth n x xs → t n ≡ p x) → first_of t (length xs) ≡ first p xs

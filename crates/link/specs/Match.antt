@@ -1,6 +1,6 @@
 -- A step of the machine and a step of the walk: `Matches o xs m d Q`: from any store that has the cells xs and stands for the
 -- walk's state, m and d end alike, in states that stand for each other, with values that Q relates. One lemma a combinator.
-use Rattle.std.specs.Prelude.{ℕ, suc, ◌+◌, ◌*◌, ◌-◌, ◌%◌, ◌<◌, max, List, [], ◌∷◌, ◌++◌, Bool, drop, ltb}
+use Rattle.std.specs.Prelude.{ℕ, suc, ◌+◌, ◌*◌, ◌-◌, ◌%◌, ◌<◌, max, List, [], ◌∷◌, ◌++◌, Bool, drop, ltb, Some, None}
 use Rattle.std.proofs.Math.Path.{◌≡◌, refl}
 use Rattle.std.proofs.Common.{sym, ap, ◌∙◌, subst, append-nil, arith, lit<}
 use Rattle.std.proofs.Math.Option.{Option, none, some}
@@ -8,12 +8,9 @@ use Rattle.std.proofs.Math.Bool.{true, false}
 use Rattle.std.proofs.Math.Decide.{dec_lt}
 use Rattle.std.proofs.Math.ListN.{length, get_or}
 use Rattle.ast.specs.Words.{ifb, up}
-use Rattle.ast.specs.Cells.{on_found, same_node, look_1, look_2, look_3}
+use Rattle.ast.specs.Cells.{Found, on_found, same_node, look_1, look_2, look_3}
 use Rattle.ast.specs.Nodes.{find_node, find_look, lowest_of, recall_of}
 use Rattle.ast.specs.declared.cells.Cell.{Cell as Words}
-use Rattle.ast.specs.declared.cells.Found.{Found}
-use Rattle.ast.specs.declared.cells.Found.TheVariants.{At, Nothing}
-use Rattle.ast.specs.declared.cells.Recalled.TheVariants.{Known as Remembered, Unknown}
 use Rattle.producer.specs.declared.rows.Refs.{Refs}
 use Rattle.producer.specs.Machine.{Machine, machine, Result, is, not, W, next, give, stop, when◌then◌else◌, open_cell, lowest, add_cell, new_cell, known_or, intern, no_refs, cons_refs, join_refs, refs_1, refs_2, refs_3, refs_4, refs_5, refs_6, refs_7, refs_10, row_block, same_row, find_row, add_row, new_row, known_row, emit, recalled_or, recall_or, replace, remembered_or, new_memory, remember, with_conversions, enter, deeper_of}
 use Rattle.producer.specs.Machine as C
@@ -121,7 +118,7 @@ fresh : (x : Thing) (s : State) → Dec (length s.cells < s.cell_room) → Outco
 fresh x s (yes h) = done tt (with_cell x s)
 fresh x s (no h) = refused Refusal.cells s
 
-count_new : (x : Thing) (s : State) → first (is_thing x) s.cells ≡ Nothing → count x s ≡ fresh x s (dec_lt (length s.cells) s.cell_room)
+count_new : (x : Thing) (s : State) → first (is_thing x) s.cells ≡ None → count x s ≡ fresh x s (dec_lt (length s.cells) s.cell_room)
 unfolding count fresh
 count_new x s e = rw (among_none x s.cells e, count) (go (dec_lt (length s.cells) s.cell_room))
   where
@@ -148,15 +145,15 @@ interning {o} {xs} {k} {a} {b} {c} {x} shape = record { holds = λ w s e h. rw (
     searched : (w : Machine) (s : State) → Extends xs s.cells → Holds o w s → find_node w.cells w.state.cells k a b c ≡ first (is_thing x) s.cells
     searched w s e h = rw (h.counts, found_node h.cells_index k a b c) (first_found (is_thing x) (same_node w.cells k a b c) s.cells (λ n y m. rw h.words.cells_end (node_test (drop (length s.cells * 8) o.cells) (s_lift e shape) h.words.cells_are m)))
 
-    new : (w : Machine) (s : State) → Extends xs s.cells → Holds o w s → first (is_thing x) s.cells ≡ Nothing → (d : Dec (length s.cells < s.cell_room)) → (t : Bool) → t ≡ yes? d → Agree {A = Unit {0}} o xs (λ n _ ys. Cell n x ys) (ifb t (is w.state.cells (add_cell (k ∷ a ∷ b ∷ c ∷ lowest_of w.cells w.state.cells k a b c ∷ 0 ∷ 0 ∷ 0 ∷ []) w)) (not Refusal.cells w)) (fresh x s d)
+    new : (w : Machine) (s : State) → Extends xs s.cells → Holds o w s → first (is_thing x) s.cells ≡ None → (d : Dec (length s.cells < s.cell_room)) → (t : Bool) → t ≡ yes? d → Agree {A = Unit {0}} o xs (λ n _ ys. Cell n x ys) (ifb t (is w.state.cells (add_cell (k ∷ a ∷ b ∷ c ∷ lowest_of w.cells w.state.cells k a b c ∷ 0 ∷ 0 ∷ 0 ∷ []) w)) (not Refusal.cells w)) (fresh x s d)
     new w s e h f (yes l) true g = both_done {b = w.state.cells} {s = with_cell x s} (more e) (more_cells (s_plain shape).1 f h (plain (s_lift e shape) (low shape w s e h)) refl (no_cell_children k a b c _ 0) l) (rw h.counts (comes x s.cells f))
     new w s e h f (yes l) false g = let z : ◌≡◌ {A = ℕ} 0 1 = cc in absurd (omega arith)
     new w s e h f (no l) true g = let z : ◌≡◌ {A = ℕ} 0 1 = cc in absurd (omega arith)
     new w s e h f (no l) false g = both_refused e h
 
     go : (w : Machine) (s : State) → Extends xs s.cells → Holds o w s → (t : Found) → first (is_thing x) s.cells ≡ t → Agree {A = Unit {0}} o xs (λ n _ ys. Cell n x ys) (known_or t (new_cell k a b c) w) (count x s)
-    go w s e h (At n) f = rw (count_known s x (held (record { found = f }))) (both_done e h (record { found = f }))
-    go w s e h Nothing f = rw (count_new x s f) (new w s e h f (dec_lt (length s.cells) s.cell_room) (ltb w.state.cells w.state.cellroom) (rw h.counts (less (length s.cells) s.cell_room)))
+    go w s e h (Some n) f = rw (count_known s x (held (record { found = f }))) (both_done e h (record { found = f }))
+    go w s e h None f = rw (count_new x s f) (new w s e h f (dec_lt (length s.cells) s.cell_room) (ltb w.state.cells w.state.cellroom) (rw h.counts (less (length s.cells) s.cell_room)))
 
 -- the node at the end of what is counted, whose parts have cells
 pub counting : {o : Before} {xs zs : List Thing} {k a b c : ℕ} {x : Thing} → Present xs zs → Shape xs k a b c x → Matches o xs (intern k a b c) (count_all (zs ++ x ∷ [])) (λ n _ ys. Cell n x ys)
@@ -297,7 +294,7 @@ module _ {o : Before} {xs : List Thing} {g t : ℕ} {G : Context} {t' : Term} (d
   unfolding recall_or recall_of recalled_or looking from◌get◌or◌ pure give
   recalling {m} {e = f} k = record { holds = λ w s e h. rw (memory_searched w s e h) (go w s e h _ _ (h.words.memory (key d G t'))) }
     where
-      go : (w : Machine) (s : State) → Extends xs s.cells → Holds o w s → (a : Found) (b : Option (Term × ℕ)) → Kept s.cells w.cells a b → Agree o xs (Returns term) (recalled_or (on_found a (λ i. Remembered (get_or w.cells (i * 8 + 4) 0) (get_or w.cells (i * 8 + 5) 0)) Unknown) m w) ((from b get pure or f) s)
+      go : (w : Machine) (s : State) → Extends xs s.cells → Holds o w s → (a : Found) (b : Option (Term × ℕ)) → Kept s.cells w.cells a b → Agree o xs (Returns term) (recalled_or (on_found a (λ i. Some (get_or w.cells (i * 8 + 4) 0, get_or w.cells (i * 8 + 5) 0)) None) m w) ((from b get pure or f) s)
       go w s e h a b no_memory = k.holds w s e h
       go w s e h a b (a_memory_at {n = n} {ty = ty} {row = row} c q) = both_done {a = (ty, row)} {b = (get_or w.cells (n * 8 + 4) 0, get_or w.cells (n * 8 + 5) 0)} e h (record { left = c; right = q })
 
@@ -306,15 +303,15 @@ module _ {o : Before} {xs : List Thing} {g t : ℕ} {G : Context} {t' : Term} (d
   unfolding remember remembered_or new_memory D.remember D.◌>>=◌ go_on store fresh with_cell with_memory
   remembering {y} {y'} row hy = record { holds = λ w s e h. rw (memory_searched w s e h) (go w s e h (first (is_thing (inference (key d G t'))) s.cells) refl) }
     where
-      new : (w : Machine) (s : State) → Extends xs s.cells → Holds o w s → first (is_thing (inference (key d G t'))) s.cells ≡ Nothing → (f : Dec (length s.cells < s.cell_room)) (b : Bool) → b ≡ yes? f → Agree {A = Unit {0}} o xs (λ _ _ _. Unit {0}) (ifb {A = Result (Unit {0})} b (is tt (add_cell (40 ∷ d ∷ g ∷ t ∷ y ∷ row ∷ 0 ∷ 0 ∷ []) w)) (not Refusal.cells w)) (go_on (fresh (inference (key d G t')) s f) (λ _. store (record { of = key d G t'; type = y'; row = row })))
+      new : (w : Machine) (s : State) → Extends xs s.cells → Holds o w s → first (is_thing (inference (key d G t'))) s.cells ≡ None → (f : Dec (length s.cells < s.cell_room)) (b : Bool) → b ≡ yes? f → Agree {A = Unit {0}} o xs (λ _ _ _. Unit {0}) (ifb {A = Result (Unit {0})} b (is tt (add_cell (40 ∷ d ∷ g ∷ t ∷ y ∷ row ∷ 0 ∷ 0 ∷ []) w)) (not Refusal.cells w)) (go_on (fresh (inference (key d G t')) s f) (λ _. store (record { of = key d G t'; type = y'; row = row })))
       new w s e h n (yes l) true q = both_done {b = tt} {s = with_memory (record { of = key d G t'; type = y'; row = row }) (with_cell (inference (key d G t')) s)} (more e) (added_holds d row h n (cell_lift e hg) (cell_lift e ht) (cell_lift e hy) l) tt
       new w s e h n (yes l) false q = let z : ◌≡◌ {A = ℕ} 0 1 = cc in absurd (omega arith)
       new w s e h n (no l) true q = let z : ◌≡◌ {A = ℕ} 0 1 = cc in absurd (omega arith)
       new w s e h n (no l) false q = both_refused e h
 
       go : (w : Machine) (s : State) → Extends xs s.cells → Holds o w s → (a : Found) → first (is_thing (inference (key d G t'))) s.cells ≡ a → Agree {A = Unit {0}} o xs (λ _ _ _. Unit {0}) (remembered_or a y row (new_memory (40 ∷ d ∷ g ∷ t ∷ y ∷ row ∷ 0 ∷ 0 ∷ [])) w) (go_on (count (inference (key d G t')) s) (λ _. store (record { of = key d G t'; type = y'; row = row })))
-      go w s e h Nothing f = rw (count_new (inference (key d G t')) s f) (new w s e h f (dec_lt (length s.cells) s.cell_room) (ltb w.state.cells w.state.cellroom) (rw h.counts (less (length s.cells) s.cell_room)))
-      go w s e h (At n) f = rw (count_known s (inference (key d G t')) (held (record { found = f }))) (both_done {b = tt} {w = replace n y row w} {s = with_memory (record { of = key d G t'; type = y'; row = row }) s} e (replaced_holds row h (record { found = f }) (cell_lift e hy)) tt)
+      go w s e h None f = rw (count_new (inference (key d G t')) s f) (new w s e h f (dec_lt (length s.cells) s.cell_room) (ltb w.state.cells w.state.cellroom) (rw h.counts (less (length s.cells) s.cell_room)))
+      go w s e h (Some n) f = rw (count_known s (inference (key d G t')) (held (record { found = f }))) (both_done {b = tt} {w = replace n y row w} {s = with_memory (record { of = key d G t'; type = y'; row = row }) s} e (replaced_holds row h (record { found = f }) (cell_lift e hy)) tt)
 
 -- conversions
 ended_agrees : {A B : Type 0} {o : Before} {xs : List Thing} {Q : B → A → List Thing → Type 0} {r : Result B} {d : Outcome A} → Agree o xs Q r d → Agree o xs Q (C.ended r) (D.ended d)
@@ -346,19 +343,19 @@ count_leaves : (x : Thing) (s t : State) → count x s ≡ done tt t → Counted
 unfolding fresh with_cell
 count_leaves x s t e = go (first (is_thing x) s.cells) refl
   where
-    new : first (is_thing x) s.cells ≡ Nothing → (d : Dec (length s.cells < s.cell_room)) → fresh x s d ≡ done tt t → Counted (x ∷ []) s t
+    new : first (is_thing x) s.cells ≡ None → (d : Dec (length s.cells < s.cell_room)) → fresh x s d ≡ done tt t → Counted (x ∷ []) s t
     new f (yes l) g =
         let q : with_cell x s ≡ t = cc in
         subst (λ (r : State). Counted (x ∷ []) s r) q (record { extends = more same; known = known (held (comes x s.cells f)) none_left; deepest = refl; limit = refl })
     new f (no l) g = let z : ◌≡◌ {A = ℕ} 0 1 = cc in absurd (omega arith)
 
     go : (o : Found) → first (is_thing x) s.cells ≡ o → Counted (x ∷ []) s t
-    go (At n) f =
+    go (Some n) f =
         let h : Held x s.cells = record { number = n; cell = record { found = f } } in
         let c = count_known s x h in
         let q : s ≡ t = cc in
         subst (λ (r : State). Counted (x ∷ []) s r) q (record { extends = same; known = known h none_left; deepest = refl; limit = refl })
-    go Nothing f = new f (dec_lt (length s.cells) s.cell_room) (sym (count_new x s f) ∙ e)
+    go None f = new f (dec_lt (length s.cells) s.cell_room) (sym (count_new x s f) ∙ e)
 
 counts_leave : (zs : List Thing) (s t : State) → count_all zs s ≡ done tt t → Counted zs s t
 unfolding count_all D.◌>>=◌ go_on pure

@@ -1,15 +1,13 @@
 -- What the words of the store and of the table stand for, and how they are searched. Assumes nothing.
-use Rattle.std.specs.Prelude.{ℕ, zero, suc, ◌+◌, ◌*◌, ◌%◌, ◌<◌, ◌≡◌, refl, List, [], ◌∷◌, ◌++◌, Bool, true, false, length, get_or, set, eqb, T}
+use Rattle.std.specs.Prelude.{ℕ, zero, suc, ◌+◌, ◌*◌, ◌%◌, ◌<◌, ◌≡◌, refl, List, [], ◌∷◌, ◌++◌, Bool, true, false, length, get_or, set, eqb, T, Some, None}
 use Rattle.std.proofs.Common.{sym, ap, ◌∙◌, subst, append_assoc, arith, add-zero, length-append, eqb→eq, lit<}
 use Rattle.std.proofs.Math.Option.{Option, none, some}
 use Rattle.std.proofs.lemmas.List.Edits.{sets}
 use Rattle.std.proofs.Math.Dec.{eqb_refl}
 use Rattle.ast.specs.Words.{ifb, all_eq}
-use Rattle.ast.specs.Cells.{or_else, on_found, last_of, cell_of, quote_of, hides_first, shows_first, shows_second, shows_third, look_1, look_2, look_3, same_node, same_look}
+use Rattle.ast.specs.Cells.{Found, or_else, on_found, last_of, cell_of, quote_of, hides_first, shows_first, shows_second, shows_third, look_1, look_2, look_3, same_node, same_look}
 use Rattle.ast.specs.Nodes.{look_hash}
 use Rattle.ast.specs.declared.cells.Cell.{Cell as Words}
-use Rattle.ast.specs.declared.cells.Found.{Found}
-use Rattle.ast.specs.declared.cells.Found.TheVariants.{At, Nothing}
 use Rattle.producer.specs.declared.rows.Refs.{Refs}
 use Rattle.producer.specs.Machine.{same_row}
 use Rattle.walk.specs.Syntax.{Interval, I0, I1, Dim, Neg, Meet, Join, Term, Universe, Var, Nat, Zero, Pi, Lam, App, Path, PathLam, PathApp, Sigma, Pair, Fst, Snd, Context, Nil, Cons}
@@ -310,37 +308,37 @@ unfolding last_of row_of
 rows_found j t [] h = refl
 rows_found j t (r ∷ rs) h = rw (rows_found j t rs (λ n y k. h n y (there k)), h (length rs) r (here refl)) (go (judgment? j r.judgment))
   where
-    go : (d : Dec (j ≡ r.judgment)) → ifb (yes? d) (At (length rs)) (found_of (row_of j rs)) ≡ found_of (elim d as (λ _. Option ℕ) [ yes e ↦ some (length rs) | no ne ↦ row_of j rs ])
+    go : (d : Dec (j ≡ r.judgment)) → ifb (yes? d) (Some (length rs)) (found_of (row_of j rs)) ≡ found_of (elim d as (λ _. Option ℕ) [ yes e ↦ some (length rs) | no ne ↦ row_of j rs ])
     go (yes e) = refl
     go (no e) = refl
 
 -- a thing has a cell or Nothing
-pub among_found : (x : Thing) (xs : List Thing) (n : ℕ) → first (is_thing x) xs ≡ At n → among x xs ≡ true
+pub among_found : (x : Thing) (xs : List Thing) (n : ℕ) → first (is_thing x) xs ≡ Some n → among x xs ≡ true
 unfolding first is_thing among
 among_found x [] n e = let z : ◌≡◌ {A = ℕ} 0 1 = cc in absurd (omega arith)
 among_found x (y ∷ ys) n e = go (first (is_thing x) ys) refl (thing? x y) (among_found x ys) e
   where
-    go : (o : Found) → first (is_thing x) ys ≡ o → (d : Dec (x ≡ y)) → ((n : ℕ) → first (is_thing x) ys ≡ At n → among x ys ≡ true) → or_else o (ifb (yes? d) (At (length ys)) Nothing) ≡ At n → elim d as (λ _. Bool) [ yes e ↦ true | no ne ↦ among x ys ] ≡ true
+    go : (o : Found) → first (is_thing x) ys ≡ o → (d : Dec (x ≡ y)) → ((n : ℕ) → first (is_thing x) ys ≡ Some n → among x ys ≡ true) → or_else o (ifb (yes? d) (Some (length ys)) None) ≡ Some n → elim d as (λ _. Bool) [ yes e ↦ true | no ne ↦ among x ys ] ≡ true
     go o f (yes d) ih g = refl
-    go (At m) f (no d) ih g = ih m f
-    go Nothing f (no d) ih g = let z : ◌≡◌ {A = ℕ} 0 1 = cc in absurd (omega arith)
+    go (Some m) f (no d) ih g = ih m f
+    go None f (no d) ih g = let z : ◌≡◌ {A = ℕ} 0 1 = cc in absurd (omega arith)
 
-pub among_none : (x : Thing) (xs : List Thing) → first (is_thing x) xs ≡ Nothing → among x xs ≡ false
+pub among_none : (x : Thing) (xs : List Thing) → first (is_thing x) xs ≡ None → among x xs ≡ false
 unfolding first is_thing among
 among_none x [] e = refl
 among_none x (y ∷ ys) e = go (first (is_thing x) ys) refl (thing? x y) (among_none x ys) e
   where
-    go : (o : Found) → first (is_thing x) ys ≡ o → (d : Dec (x ≡ y)) → (first (is_thing x) ys ≡ Nothing → among x ys ≡ false) → ◌≡◌ {A = Found} (or_else o (ifb (yes? d) (At (length ys)) Nothing)) Nothing → elim d as (λ _. Bool) [ yes e ↦ true | no ne ↦ among x ys ] ≡ false
-    go (At m) f d ih g = let z : ◌≡◌ {A = ℕ} 0 1 = cc in absurd (omega arith)
-    go Nothing f (yes d) ih g = let z : ◌≡◌ {A = ℕ} 0 1 = cc in absurd (omega arith)
-    go Nothing f (no d) ih g = ih f
+    go : (o : Found) → first (is_thing x) ys ≡ o → (d : Dec (x ≡ y)) → (first (is_thing x) ys ≡ None → among x ys ≡ false) → ◌≡◌ {A = Found} (or_else o (ifb (yes? d) (Some (length ys)) None)) None → elim d as (λ _. Bool) [ yes e ↦ true | no ne ↦ among x ys ] ≡ false
+    go (Some m) f d ih g = let z : ◌≡◌ {A = ℕ} 0 1 = cc in absurd (omega arith)
+    go None f (yes d) ih g = let z : ◌≡◌ {A = ℕ} 0 1 = cc in absurd (omega arith)
+    go None f (no d) ih g = ih f
 
 -- the cell that comes
-pub comes : (x : Thing) (xs : List Thing) → first (is_thing x) xs ≡ Nothing → Cell (length xs) x (x ∷ xs)
+pub comes : (x : Thing) (xs : List Thing) → first (is_thing x) xs ≡ None → Cell (length xs) x (x ∷ xs)
 unfolding first is_thing
 comes x xs e = record { found = rw e (at (thing? x x)) }
   where
-    at : (d : Dec (x ≡ x)) → ◌≡◌ {A = Found} (ifb (yes? d) (At (length xs)) Nothing) (At (length xs))
+    at : (d : Dec (x ≡ x)) → ◌≡◌ {A = Found} (ifb (yes? d) (Some (length xs)) None) (Some (length xs))
     at (yes h) = refl
     at (no h) = absurd (h refl)
 
@@ -349,10 +347,10 @@ pub lowest_comes : (x : Thing) (xs : List Thing) → Low (on_found (first (shows
 unfolding first shows
 lowest_comes x xs = record { found = go (first (shows (show x)) xs) (shown? (show x) (show x)) }
   where
-    go : (o : Found) (d : Dec (show x ≡ show x)) → ◌≡◌ {A = Found} (or_else o (ifb (yes? d) (At (length xs)) Nothing)) (At (on_found o (λ i. i) (length xs)))
-    go (At n) d = refl
-    go Nothing (yes h) = refl
-    go Nothing (no h) = absurd (h refl)
+    go : (o : Found) (d : Dec (show x ≡ show x)) → ◌≡◌ {A = Found} (or_else o (ifb (yes? d) (Some (length xs)) None)) (Some (on_found o (λ i. i) (length xs)))
+    go (Some n) d = refl
+    go None (yes h) = refl
+    go None (no h) = absurd (h refl)
 
 -- all the parts of what has a cell have cells
 module _ {xs : List Thing} {ws : List ℕ} (cs : Cells xs ws) where
@@ -439,15 +437,15 @@ memory_test {g} {t} {n} {G} {t₁} {y} {xs} {ws} rest d hg ht cs h = let r = rea
 
 -- what a search for a remembered inference finds, and the words there
 pub data Kept (xs : List Thing) (ws : List ℕ) : Found → Option (Term × ℕ) → Type 0 where
-  no_memory : Kept xs ws Nothing none
-  a_memory_at : {n : ℕ} {ty : Term} {row : ℕ} → Cell (get_or ws (n * 8 + 4) 0) (term ty) xs → get_or ws (n * 8 + 5) 0 ≡ row → Kept xs ws (At n) (some (ty, row))
+  no_memory : Kept xs ws None none
+  a_memory_at : {n : ℕ} {ty : Term} {row : ℕ} → Cell (get_or ws (n * 8 + 4) 0) (term ty) xs → get_or ws (n * 8 + 5) 0 ≡ row → Kept xs ws (Some n) (some (ty, row))
 
 -- every key: it has a cell where it is remembered, and there its type and row
 abbrev pub Remembers : List Thing → List Memory → List ℕ → Type 0
 Remembers xs ms ws = (k : Key) → Kept xs ws (first (is_thing (inference k)) xs) (recall k ms)
 
 -- the words may move where no cell that was found lies
-pub kept_moves : {xs ys : List Thing} {ws ws' : List ℕ} {o : Found} {p : Option (Term × ℕ)} → Extends xs ys → ((n : ℕ) → o ≡ At n → (get_or ws' (n * 8 + 4) 0 ≡ get_or ws (n * 8 + 4) 0) × (get_or ws' (n * 8 + 5) 0 ≡ get_or ws (n * 8 + 5) 0)) → Kept xs ws o p → Kept ys ws' o p
+pub kept_moves : {xs ys : List Thing} {ws ws' : List ℕ} {o : Found} {p : Option (Term × ℕ)} → Extends xs ys → ((n : ℕ) → o ≡ Some n → (get_or ws' (n * 8 + 4) 0 ≡ get_or ws (n * 8 + 4) 0) × (get_or ws' (n * 8 + 5) 0 ≡ get_or ws (n * 8 + 5) 0)) → Kept xs ws o p → Kept ys ws' o p
 kept_moves e f no_memory = no_memory
 kept_moves {ws = ws} {ws' = ws'} e f (a_memory_at {n = n} {ty = ty} c q) = let r = f n refl in a_memory_at {n = n} {ty = ty} (rw r.0 (cell_lift e c)) (r.1 ∙ q)
 
@@ -456,21 +454,21 @@ pub first_plain : (k : Key) (x : Thing) (xs : List Thing) → Plain x → first 
 unfolding first
 first_plain k x xs p = rw (← plain_not k x p) (go (first (is_thing (inference k)) xs))
   where
-    go : (o : Found) → or_else o Nothing ≡ o
-    go Nothing = refl
-    go (At n) = refl
+    go : (o : Found) → or_else o None ≡ o
+    go None = refl
+    go (Some n) = refl
 
 -- another key's cell more
 pub first_other : (k k' : Key) (xs : List Thing) → (k ≡ k' → ⊥) → first (is_thing (inference k)) (inference k' ∷ xs) ≡ first (is_thing (inference k)) xs
 unfolding first is_thing
 first_other k k' xs ne = go (first (is_thing (inference k)) xs) (thing? (inference k) (inference k'))
   where
-    go : (o : Found) (d : Dec (inference k ≡ inference k')) → or_else o (ifb (yes? d) (At (length xs)) Nothing) ≡ o
-    go (At n) d = refl
-    go Nothing (no q) = refl
-    go Nothing (yes q) = let e : k ≡ k' = cc in absurd (ne e)
+    go : (o : Found) (d : Dec (inference k ≡ inference k')) → or_else o (ifb (yes? d) (Some (length xs)) None) ≡ o
+    go (Some n) d = refl
+    go None (no q) = refl
+    go None (yes q) = let e : k ≡ k' = cc in absurd (ne e)
 
-pub nth_fits : {n : ℕ} (k : Key) (xs : List Thing) → first (is_thing (inference k)) xs ≡ At n → n < length xs
+pub nth_fits : {n : ℕ} (k : Key) (xs : List Thing) → first (is_thing (inference k)) xs ≡ Some n → n < length xs
 nth_fits k xs e = nth_below (cell_nth (record { found = e }))
 
 -- the type and the row of a remembered inference are written over

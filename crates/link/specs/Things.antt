@@ -1,10 +1,9 @@
 -- Things in cells: which cell a thing has, and which is the lowest with its quote. Assumes nothing.
 -- That `cell` and `quoted` are the numbers of these is proved in proofs/Things.
-use Rattle.std.specs.Prelude.{ℕ, ◌≡◌, Bool, true, false, length, List, [], ◌∷◌, ◌++◌}
+use Rattle.std.specs.Prelude.{ℕ, ◌≡◌, Bool, true, false, length, List, [], ◌∷◌, ◌++◌, Some, None}
 use Rattle.std.proofs.Math.Path.{refl}
 use Rattle.std.proofs.Common.{sym, ap, ◌∙◌, arith}
 use Rattle.std.proofs.Math.Option.{Option, none, some}
-use Rattle.ast.specs.declared.cells.Found.TheVariants.{At, Nothing}
 use Rattle.walk.specs.Syntax.{Interval, Quote, Quotes, quote, quotes, quote?, quotes?, interval?}
 use Rattle.walk.specs.State.{Thing, term, interval, context, inference, thing?}
 use Rattle.link.specs.Lists.{yes?, first, Nth, nth_unique, Extends, same, more, first_stays, first_passes}
@@ -61,15 +60,15 @@ yes_true (no h) e = let z : ◌≡◌ {A = ℕ} 0 1 = cc in absurd (omega arith)
 
 -- cell n is x: the first that is
 pub record Cell (n : ℕ) (x : Thing) (xs : List Thing) : Type 0 where
-  pub found : first (is_thing x) xs ≡ At n
+  pub found : first (is_thing x) xs ≡ Some n
 
 -- cell n is the lowest that shows s
 pub record Low (n : ℕ) (s : Shown) (xs : List Thing) : Type 0 where
-  pub found : first (shows s) xs ≡ At n
+  pub found : first (shows s) xs ≡ Some n
 
 -- no thing has two cells
 pub record Distinct (xs : List Thing) : Type 0 where
-  pub once : (x : Thing) (before : List Thing) → Counted x before xs → first (is_thing x) before ≡ Nothing
+  pub once : (x : Thing) (before : List Thing) → Counted x before xs → first (is_thing x) before ≡ None
 
 pub no_cell : {x : Thing} {before xs : List Thing} → Counted x before xs → xs ≡ [] → ⊥
 no_cell same q = let z : ◌≡◌ {A = ℕ} 0 1 = cc in omega arith
@@ -78,11 +77,11 @@ no_cell (more c) q = let z : ◌≡◌ {A = ℕ} 0 1 = cc in omega arith
 pub none_distinct : Distinct []
 none_distinct = record { once = λ x before c. absurd (no_cell c refl) }
 
-once_more : {x y : Thing} {xs before : List Thing} → first (is_thing x) xs ≡ Nothing → Distinct xs → Counted y before (x ∷ xs) → first (is_thing y) before ≡ Nothing
+once_more : {x y : Thing} {xs before : List Thing} → first (is_thing x) xs ≡ None → Distinct xs → Counted y before (x ∷ xs) → first (is_thing y) before ≡ None
 once_more f d same = f
 once_more f d (more c) = d.once _ _ c
 
-pub more_distinct : {x : Thing} {xs : List Thing} → first (is_thing x) xs ≡ Nothing → Distinct xs → Distinct (x ∷ xs)
+pub more_distinct : {x : Thing} {xs : List Thing} → first (is_thing x) xs ≡ None → Distinct xs → Distinct (x ∷ xs)
 more_distinct f d = record { once = λ y before c. once_more f d c }
 
 pub cell_lift : {n : ℕ} {x : Thing} {xs ys : List Thing} → Extends xs ys → Cell n x xs → Cell n x ys

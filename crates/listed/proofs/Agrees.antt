@@ -1,5 +1,5 @@
 -- Words that hold a quote, an argument, a judgment, a row or a call have its text. Assumes nothing.
-use Rattle.std.specs.Prelude.{◌≡◌, refl, List, [], ◌∷◌, ◌++◌, ℕ, zero, suc, min, length}
+use Rattle.std.specs.Prelude.{◌≡◌, refl, List, [], ◌∷◌, ◌++◌, ℕ, zero, suc, min, length, Some}
 use Rattle.std.proofs.Common.{ap, ◌∙◌, append-nil}
 use Rattle.std.proofs.Math.Nat.{min-eq_right}
 use Rattle.walk.specs.Syntax.{Interval, Quote, Quotes}
@@ -9,7 +9,7 @@ use Rattle.rules.specs.Names.{bytes, judgment_name, node_name}
 use Rattle.rules.specs.Kinds.{sorts_of, sort_of, parts_of, part_of}
 use Rattle.rules.specs.Sorts.{sort}
 use Rattle.writer.specs.Text.{Text, decimal, each}
-use Rattle.quotes.specs.Quotes.{cell_word, argument, node_as, lower, quote}
+use Rattle.quotes.specs.Quotes.{cell_word, by_sort, argument, part_in, node_as, lower, quote}
 use Rattle.quotes.specs.Judgments.{judgment_as}
 use Rattle.lines.specs.Rows.{reference, some_refs, refs, row_head, row_line}
 use Rattle.lines.specs.Calls.{call_row, result, call_result, call_head, call_line, answer_word, code}
@@ -36,7 +36,7 @@ part_said : {C : List ℕ} {i w j : ℕ} (t : Text) → PartIn C i w j → quote
 part_said {C} {i} {w} {j} t p e = rw (p.word, lower_yes i j (quote C) p.lower) e
 
 pub interval_said : {C : List ℕ} {i : ℕ} {r : Interval} → IntervalCell C i r → quote C i ≡ interval_text r
-unfolding node_name parts_of part_of argument node_as interval_text
+unfolding node_name parts_of part_of by_sort part_in node_as interval_text
 -- written by tools/written.py: text of an interval
 interval_said (cell_0 k) = rw (quote_node, k)
 interval_said (cell_1 k) = rw (quote_node, k)
@@ -48,7 +48,7 @@ interval_said (cell_join {x = x} {y = y} k p1 h1 p2 h2) = rw (quote_node, k, par
 -- end of text of an interval
 
 pub quote_said : {C : List ℕ} {i : ℕ} {t : Quote} → QuoteCell C i t → quote C i ≡ quote_text t
-unfolding node_name parts_of part_of argument node_as quote_text
+unfolding node_name parts_of part_of by_sort part_in node_as quote_text
 -- written by tools/written.py: text of a quote
 quote_said (cell_u {n = n} k e) = rw (quote_node, k, e) (close_2 (spaced (bytes "(u") (decimal n ∷ [])))
 quote_said (cell_v {n = n} k e) = rw (quote_node, k, e) (close_2 (spaced (bytes "(v") (decimal n ∷ [])))
@@ -68,13 +68,13 @@ quote_said (cell_snd {x = x} k p1 h1) = rw (quote_node, k, part_said _ p1 (quote
 -- end of text of a quote
 
 pub context_said : {C : List ℕ} {i : ℕ} {g : Quotes} → ContextCell C i g → quote C i ≡ context_text g
-unfolding node_name parts_of part_of argument node_as context_text
+unfolding node_name parts_of part_of by_sort part_in node_as context_text
 context_said (cell_nil k) = rw (quote_node, k)
 context_said (cell_cons {t = t} {g = g} k p h q l) = rw (quote_node, k, part_said _ p (quote_said h), part_said _ q (context_said l)) (close_1 (spaced (bytes "(cons") (quote_text t ∷ context_text g ∷ [])))
 
 -- An argument after its blank.
-argument_said : {C : List ℕ} {x : ℕ} {a : Argument} → ArgumentWord C x a → argument (quote C) (sort a) x ≡ bytes " " ++ argument_text a
-unfolding argument argument_text
+argument_said : {C : List ℕ} {x : ℕ} {a : Argument} → ArgumentWord C x a → argument (quote C) (Some (sort a)) x ≡ bytes " " ++ argument_text a
+unfolding by_sort argument argument_text
 argument_said word_number = refl
 argument_said (word_term h) = rw (quote_said h)
 argument_said (word_interval h) = rw (interval_said h)

@@ -2,72 +2,21 @@
 // small, so that a short listing takes several too, and each is twice the one before, up to the buffer.
 #![tactic(auto)]
 
-ghost use Rattle.std.specs.Prelude.{◌≤◌};
-
-use ran::Ran;
 use std::io;
-use text::Piece;
+use text::{Calls, Piece, Table, Words};
 
-// The part of the listing from `from` on that fits the buffer; whether there is more.
-fn put(
-    rt: &impl Print,
-    run: Ran,
-    codes: &[u8],
-    answers: &[u32],
-    rows: &[u32],
-    cells: &[u32],
-    from: usize,
-    buf: &mut [u8],
-) -> io::Result<bool> {
-    let seen = text::window(
-        Piece::Listing,
-        run,
-        codes,
-        answers,
-        rows,
-        cells,
-        from,
-        1,
-        buf,
-    );
-    rt.write_all(&buf[..seen.put])?;
-    Ok(seen.left != 0)
-}
-
-// A window of `size` bytes.
-fn turn(
-    rt: &impl Print,
-    run: Ran,
-    codes: &[u8],
-    answers: &[u32],
-    rows: &[u32],
-    cells: &[u32],
-    from: usize,
-    size: usize,
-) -> io::Result<bool>
-    requires { size ≤ 65536 }
-{
+fn show(rt: &impl Print, words: &Words) -> io::Result<()> {
     let mut buf = [0u8; 65536];
-    put(rt, run, codes, answers, rows, cells, from, &mut buf[..size])
-}
-
-fn show(
-    rt: &impl Print,
-    run: Ran,
-    codes: &[u8],
-    answers: &[u32],
-    rows: &[u32],
-    cells: &[u32],
-) -> io::Result<()> {
     let mut from: usize = 0;
     let mut size: usize = 64;
     while from < 9223372036854775808 {
-        if turn(rt, run, codes, answers, rows, cells, from, size)? {
-            from += size;
-            size = if size < 32768 { 2 * size } else { 65536 };
-        } else {
-            return Ok(());
+        let seen = words.window(Piece::Listing, from, 1, &mut buf[..size]);
+        rt.write_all(&buf[..seen.put])?;
+        if seen.left == 0 {
+            break;
         }
+        from += size;
+        size = (2 * size).min(65536);
     }
     Ok(())
 }
@@ -79,7 +28,18 @@ fn main(rt: HostRuntime) -> io::Result<()> {
     let mut cells = [0u32; 16384];
     let mut answers = [0u32; 16384];
     let mut codes = [0u8; 4096];
-    let ran = run::entry::run(&input[..n], &mut rows, &mut cells, &mut answers);
+    let run = run::entry::run(&input[..n], &mut rows, &mut cells, &mut answers);
     syntax::call_codes(&input[..n], &mut codes);
-    show(&rt, ran, &codes, &answers, &rows, &cells)
+    let words = Words {
+        run,
+        calls: Calls {
+            codes: &codes,
+            answers: &answers,
+        },
+        table: Table {
+            rows: &rows,
+            cells: &cells,
+        },
+    };
+    show(&rt, &words)
 }

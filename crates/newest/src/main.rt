@@ -2,345 +2,338 @@
 // then by the index that is made over them. A line has the table, what is asked for, and both answers.
 #![tactic(auto)]
 
-use ast::cells::{Found, put_cell};
-use ast::words::put;
-use producer::rows::{cite0, find_row, put_row, row_start};
+use ast::cells::{Node, put_cell};
+use ast::kinds;
+use ast::words::{put, put_all};
+use producer::codes::{Judgment, Rule};
+use producer::rows::{cite, find_row, put_row, row_start};
 use search::index::index_rows;
 use search::plain::{Wanted, last_row};
-use std::io;
+use std::{fmt, io};
 
 // How many cells there are.
 const CELLS: u32 = 14;
 
-// The numbers of some rules, and of the judgments that they conclude.
-const CTX_NIL: u32 = 0;
-
-const LT_Z: u32 = 6;
-
-const LE_Z: u32 = 8;
-
-const TYPE_ZERO: u32 = 79;
-
-const TYPE_CONV: u32 = 87;
-
-const EQ_REFL: u32 = 88;
-
-const CTX: u32 = 0;
-
-const LT: u32 = 3;
-
-const LE: u32 = 4;
-
-const HAS: u32 = 13;
-
-const EQ: u32 = 14;
-
 // A cell of a kind, whose other words say nothing: no lowest cell, no index.
 fn cell(cells: &mut [u32], n: u32, kind: u32, a: u32, b: u32) {
-    put_cell(cells, n, kind, a, b, 0, 9, 9, 9, 9);
+    let node = Node { kind, a, b, c: 0 };
+    put_cell(cells, n, node, 9, 9, 9, 9);
 }
 
 // nil, nat, zero, u 0, v 0.
 fn atoms(cells: &mut [u32]) {
-    cell(cells, 0, 32, 0, 0);
-    cell(cells, 1, 3, 0, 0);
-    cell(cells, 2, 4, 0, 0);
-    cell(cells, 3, 1, 0, 0);
-    cell(cells, 4, 2, 0, 0);
+    cell(cells, 0, kinds::NIL, 0, 0);
+    cell(cells, 1, kinds::NAT, 0, 0);
+    cell(cells, 2, kinds::ZERO, 0, 0);
+    cell(cells, 3, kinds::UNIVERSE, 0, 0);
+    cell(cells, 4, kinds::VAR, 0, 0);
 }
 
 // 5 and 6 have one quote, lam (v 0), and differ in the annotation; so do 9 and 10, which are applied to zero. 7 and 8 are equal.
 fn terms(cells: &mut [u32]) {
-    cell(cells, 5, 6, 1, 4);
-    cell(cells, 6, 6, 3, 4);
-    cell(cells, 7, 5, 1, 1);
-    cell(cells, 8, 5, 1, 1);
-    cell(cells, 9, 7, 5, 2);
-    cell(cells, 10, 7, 6, 2);
+    cell(cells, 5, kinds::LAM, 1, 4);
+    cell(cells, 6, kinds::LAM, 3, 4);
+    cell(cells, 7, kinds::PI, 1, 1);
+    cell(cells, 8, kinds::PI, 1, 1);
+    cell(cells, 9, kinds::APP, 5, 2);
+    cell(cells, 10, kinds::APP, 6, 2);
 }
 
 // 11 and 12 are equal contexts; 13 is a part of itself, and has no quote.
 fn others(cells: &mut [u32]) {
-    cell(cells, 11, 33, 1, 0);
-    cell(cells, 12, 33, 1, 0);
-    cell(cells, 13, 5, 13, 13);
+    cell(cells, 11, kinds::CONS, 1, 0);
+    cell(cells, 12, kinds::CONS, 1, 0);
+    cell(cells, 13, kinds::PI, 13, 13);
 }
 
 // A row by a rule. Its working words are wrong: no kind, and children that are not there or lead astray.
-fn row(rows: &mut [u32], n: u32, rule: u32, a: u32, b: u32, c: u32, d: u32, e: u32) {
-    let refs = cite0();
-    put_row(rows, n, rule, refs, 99, 0, a, b, c, d, e);
+fn row(rows: &mut [u32], n: u32, rule: Rule, a: u32, b: u32, c: u32, d: u32, e: u32) {
+    put_row(rows, n, rule.number(), cite([]), 99, 0, a, b, c, d, e);
     let at = row_start(n);
     put(rows, at + 18, 7);
-    put(rows, at + 20, 1);
-    put(rows, at + 21, 2);
-    put(rows, at + 22, 3);
-    put(rows, at + 23, 4294967295);
+    put_all(rows, at + 20, &[1, 2, 3, u32::MAX]);
 }
 
 // A row of two numbers.
-fn pair(rows: &mut [u32], n: u32, rule: u32, a: u32, b: u32) {
+fn pair(rows: &mut [u32], n: u32, rule: Rule, a: u32, b: u32) {
     row(rows, n, rule, a, b, 0, 0, 0);
 }
 
-fn wanted(kind: u32, a: u32, b: u32, c: u32, d: u32, e: u32) -> Wanted {
+fn wanted(judgment: Judgment) -> Wanted {
+    let words = judgment.words();
     Wanted {
-        kind,
-        a,
-        b,
-        c,
-        d,
-        e,
+        kind: words.kind,
+        a: words.a,
+        b: words.b,
+        c: words.c,
+        d: words.d,
+        e: words.e,
     }
 }
 
-fn print(rt: &impl Print, found: Found) -> io::Result<()> {
-    match found {
-        Found::At(i) => rt.print(i),
-        Found::Nothing => rt.write_all(b"none"),
+// What a search found, as it is printed.
+#[derive(Clone, Copy)]
+struct Found(Option<u32>);
+
+impl fmt::Display for Found {
+    fn fmt<W: fmt::Write>(&self, f: &mut fmt::Formatter<W>) -> fmt::Result {
+        match self.0 {
+            Some(i) => write!(f, "{i}"),
+            None => f.write_str("none"),
+        }
     }
 }
 
 // The line of a search: by the plain search, and by the index over the first `n` rows.
 fn ask(
     rt: &impl Print,
-    name: &[u8],
+    name: &str,
     rows: &mut [u32],
     n: u32,
     cells: &[u32],
     w: Wanted,
 ) -> io::Result<()> {
-    rt.write_all(name)?;
-    rt.write_all(b": ")?;
-    let plain = last_row(rows, n, cells, CELLS, w);
-    print(rt, plain)?;
-    rt.write_all(b" ")?;
+    let plain = Found(last_row(rows, n, cells, CELLS, w));
     index_rows(rows, n);
-    let by_index = find_row(rows, n, w.kind, w.a, w.b, w.c, w.d, w.e);
-    print(rt, by_index)?;
-    rt.write_all(b"\n")
-}
-
-fn ask_pair(
-    rt: &impl Print,
-    name: &[u8],
-    rows: &mut [u32],
-    n: u32,
-    cells: &[u32],
-    kind: u32,
-    a: u32,
-    b: u32,
-) -> io::Result<()> {
-    let w = wanted(kind, a, b, 0, 0, 0);
-    ask(rt, name, rows, n, cells, w)
+    let by_index = Found(find_row(rows, n, w.kind, w.a, w.b, w.c, w.d, w.e));
+    println!(rt; "{name}: {plain} {by_index}")
 }
 
 // No row, and one.
 fn small(rt: &impl Print, cells: &[u32]) -> io::Result<()> {
     let mut rows = [0u32; 192];
-    ask_pair(rt, b"empty", &mut rows, 0, cells, LT, 1, 2)?;
-    pair(&mut rows, 0, LT_Z, 1, 2);
-    ask_pair(rt, b"empty, a row behind it", &mut rows, 0, cells, LT, 1, 2)?;
-    ask_pair(rt, b"one", &mut rows, 1, cells, LT, 1, 2)?;
-    ask_pair(rt, b"one, another asked", &mut rows, 1, cells, LT, 2, 1)?;
-    pair(&mut rows, 0, CTX_NIL, 0, 0);
-    ask_pair(rt, b"one, a context", &mut rows, 1, cells, CTX, 0, 0)
+    ask(rt, "empty", &mut rows, 0, cells, wanted(Judgment::Lt(1, 2)))?;
+    pair(&mut rows, 0, Rule::LtZ, 1, 2);
+    ask(
+        rt,
+        "empty, a row behind it",
+        &mut rows,
+        0,
+        cells,
+        wanted(Judgment::Lt(1, 2)),
+    )?;
+    ask(rt, "one", &mut rows, 1, cells, wanted(Judgment::Lt(1, 2)))?;
+    ask(
+        rt,
+        "one, another asked",
+        &mut rows,
+        1,
+        cells,
+        wanted(Judgment::Lt(2, 1)),
+    )?;
+    pair(&mut rows, 0, Rule::CtxNil, 0, 0);
+    ask(
+        rt,
+        "one, a context",
+        &mut rows,
+        1,
+        cells,
+        wanted(Judgment::Ctx(0, 0)),
+    )
 }
 
 // A judgment that stands twice, and three times, by one rule and by two.
 fn repeated(rt: &impl Print, cells: &[u32]) -> io::Result<()> {
     let mut rows = [0u32; 192];
-    row(&mut rows, 0, TYPE_ZERO, 0, 0, 2, 1, 0);
-    pair(&mut rows, 1, LT_Z, 1, 2);
-    row(&mut rows, 2, TYPE_CONV, 0, 0, 2, 1, 0);
-    pair(&mut rows, 3, LT_Z, 1, 2);
-    pair(&mut rows, 4, LE_Z, 1, 2);
-    pair(&mut rows, 5, LT_Z, 1, 2);
-    let typing = wanted(HAS, 0, 0, 2, 1, 0);
-    ask(rt, b"twice", &mut rows, 6, cells, typing)?;
+    row(&mut rows, 0, Rule::TypeZero, 0, 0, 2, 1, 0);
+    pair(&mut rows, 1, Rule::LtZ, 1, 2);
+    row(&mut rows, 2, Rule::TypeConv, 0, 0, 2, 1, 0);
+    pair(&mut rows, 3, Rule::LtZ, 1, 2);
+    pair(&mut rows, 4, Rule::LeZ, 1, 2);
+    pair(&mut rows, 5, Rule::LtZ, 1, 2);
+    let typing = wanted(Judgment::Has(0, 0, 2, 1));
+    ask(rt, "twice", &mut rows, 6, cells, typing)?;
     ask(
         rt,
-        b"twice, cut after the first",
+        "twice, cut after the first",
         &mut rows,
         2,
         cells,
         typing,
     )?;
-    ask_pair(rt, b"three times", &mut rows, 6, cells, LT, 1, 2)?;
-    ask_pair(
+    ask(
         rt,
-        b"three times, cut after the second",
+        "three times",
+        &mut rows,
+        6,
+        cells,
+        wanted(Judgment::Lt(1, 2)),
+    )?;
+    ask(
+        rt,
+        "three times, cut after the second",
         &mut rows,
         5,
         cells,
-        LT,
-        1,
-        2,
+        wanted(Judgment::Lt(1, 2)),
     )?;
-    ask_pair(rt, b"once between them", &mut rows, 6, cells, LE, 1, 2)
+    ask(
+        rt,
+        "once between them",
+        &mut rows,
+        6,
+        cells,
+        wanted(Judgment::Le(1, 2)),
+    )
 }
 
 // Neighbours that differ in one argument, or in the kind alone.
 fn neighbours(rt: &impl Print, cells: &[u32]) -> io::Result<()> {
     let mut rows = [0u32; 192];
-    row(&mut rows, 0, EQ_REFL, 1, 0, 2, 2, 1);
-    row(&mut rows, 1, EQ_REFL, 0, 0, 2, 2, 1);
-    row(&mut rows, 2, EQ_REFL, 0, 11, 2, 2, 1);
-    row(&mut rows, 3, EQ_REFL, 0, 0, 1, 2, 1);
-    row(&mut rows, 4, EQ_REFL, 0, 0, 2, 1, 1);
-    row(&mut rows, 5, EQ_REFL, 0, 0, 2, 2, 3);
-    pair(&mut rows, 6, LT_Z, 4, 5);
-    pair(&mut rows, 7, LE_Z, 4, 5);
-    let middle = wanted(EQ, 0, 0, 2, 2, 1);
+    row(&mut rows, 0, Rule::EqRefl, 1, 0, 2, 2, 1);
+    row(&mut rows, 1, Rule::EqRefl, 0, 0, 2, 2, 1);
+    row(&mut rows, 2, Rule::EqRefl, 0, 11, 2, 2, 1);
+    row(&mut rows, 3, Rule::EqRefl, 0, 0, 1, 2, 1);
+    row(&mut rows, 4, Rule::EqRefl, 0, 0, 2, 1, 1);
+    row(&mut rows, 5, Rule::EqRefl, 0, 0, 2, 2, 3);
+    pair(&mut rows, 6, Rule::LtZ, 4, 5);
+    pair(&mut rows, 7, Rule::LeZ, 4, 5);
+    let middle = wanted(Judgment::Eq(0, 0, 2, 2, 1));
+    ask(rt, "neighbours in an argument", &mut rows, 8, cells, middle)?;
+    let other = wanted(Judgment::Eq(0, 0, 3, 2, 1));
+    ask(rt, "none of the neighbours", &mut rows, 8, cells, other)?;
     ask(
         rt,
-        b"neighbours in an argument",
+        "neighbours in the kind, the lower",
         &mut rows,
         8,
         cells,
-        middle,
+        wanted(Judgment::Lt(4, 5)),
     )?;
-    let other = wanted(EQ, 0, 0, 3, 2, 1);
-    ask(rt, b"none of the neighbours", &mut rows, 8, cells, other)?;
-    ask_pair(
+    ask(
         rt,
-        b"neighbours in the kind, the lower",
+        "neighbours in the kind, the higher",
         &mut rows,
         8,
         cells,
-        LT,
-        4,
-        5,
-    )?;
-    ask_pair(
-        rt,
-        b"neighbours in the kind, the higher",
-        &mut rows,
-        8,
-        cells,
-        LE,
-        4,
-        5,
+        wanted(Judgment::Le(4, 5)),
     )
 }
 
 // Rows whose arguments are cells with the same quote, that are not the lowest: the index is not promised to find these.
 fn annotated(rt: &impl Print, cells: &[u32]) -> io::Result<()> {
     let mut rows = [0u32; 192];
-    row(&mut rows, 0, TYPE_ZERO, 0, 0, 5, 7, 0);
-    row(&mut rows, 1, TYPE_ZERO, 0, 0, 6, 7, 0);
-    row(&mut rows, 2, TYPE_ZERO, 0, 0, 10, 1, 0);
-    row(&mut rows, 3, TYPE_ZERO, 0, 12, 2, 8, 0);
-    row(&mut rows, 4, TYPE_ZERO, 0, 0, 13, 1, 0);
-    let lam = wanted(HAS, 0, 0, 5, 7, 0);
+    row(&mut rows, 0, Rule::TypeZero, 0, 0, 5, 7, 0);
+    row(&mut rows, 1, Rule::TypeZero, 0, 0, 6, 7, 0);
+    row(&mut rows, 2, Rule::TypeZero, 0, 0, 10, 1, 0);
+    row(&mut rows, 3, Rule::TypeZero, 0, 12, 2, 8, 0);
+    row(&mut rows, 4, Rule::TypeZero, 0, 0, 13, 1, 0);
+    let lam = wanted(Judgment::Has(0, 0, 5, 7));
     ask(
         rt,
-        b"an annotation, by the lower cell",
+        "an annotation, by the lower cell",
         &mut rows,
         2,
         cells,
         lam,
     )?;
-    let again = wanted(HAS, 0, 0, 6, 8, 0);
+    let again = wanted(Judgment::Has(0, 0, 6, 8));
     ask(
         rt,
-        b"an annotation, by the higher cell",
+        "an annotation, by the higher cell",
         &mut rows,
         2,
         cells,
         again,
     )?;
-    let app = wanted(HAS, 0, 0, 9, 1, 0);
-    ask(rt, b"an annotation inside", &mut rows, 5, cells, app)?;
-    let context = wanted(HAS, 0, 11, 2, 7, 0);
-    ask(rt, b"equal cells", &mut rows, 5, cells, context)
+    let app = wanted(Judgment::Has(0, 0, 9, 1));
+    ask(rt, "an annotation inside", &mut rows, 5, cells, app)?;
+    let context = wanted(Judgment::Has(0, 11, 2, 7));
+    ask(rt, "equal cells", &mut rows, 5, cells, context)
 }
 
 // Judgments with one hash: each is told from the other.
 fn collided(rt: &impl Print, cells: &[u32]) -> io::Result<()> {
     let mut rows = [0u32; 192];
-    pair(&mut rows, 0, LT_Z, 74, 22855);
-    pair(&mut rows, 1, LT_Z, 30986, 46738);
-    pair(&mut rows, 2, LT_Z, 54026, 50204);
-    pair(&mut rows, 3, LE_Z, 44333, 27115);
-    pair(&mut rows, 4, LT_Z, 74, 22855);
-    ask_pair(
+    pair(&mut rows, 0, Rule::LtZ, 74, 22855);
+    pair(&mut rows, 1, Rule::LtZ, 30986, 46738);
+    pair(&mut rows, 2, Rule::LtZ, 54026, 50204);
+    pair(&mut rows, 3, Rule::LeZ, 44333, 27115);
+    pair(&mut rows, 4, Rule::LtZ, 74, 22855);
+    ask(
         rt,
-        b"one hash, the first",
+        "one hash, the first",
         &mut rows,
         4,
         cells,
-        LT,
-        74,
-        22855,
+        wanted(Judgment::Lt(74, 22855)),
     )?;
-    ask_pair(
+    ask(
         rt,
-        b"one hash, the first again",
+        "one hash, the first again",
         &mut rows,
         5,
         cells,
-        LT,
-        74,
-        22855,
+        wanted(Judgment::Lt(74, 22855)),
     )?;
-    ask_pair(
+    ask(
         rt,
-        b"one hash, the second",
+        "one hash, the second",
         &mut rows,
         5,
         cells,
-        LT,
-        30986,
-        46738,
+        wanted(Judgment::Lt(30986, 46738)),
     )?;
-    ask_pair(
+    ask(
         rt,
-        b"one hash, another kind",
+        "one hash, another kind",
         &mut rows,
         5,
         cells,
-        LE,
-        44333,
-        27115,
+        wanted(Judgment::Le(44333, 27115)),
     )?;
-    ask_pair(
+    ask(
         rt,
-        b"one hash, not there",
+        "one hash, not there",
         &mut rows,
         1,
         cells,
-        LT,
-        30986,
-        46738,
+        wanted(Judgment::Lt(30986, 46738)),
     )
 }
 
 // Every row of the slice is used, and each judgment of the upper half stands in the lower too.
 fn fill(rows: &mut [u32]) {
-    let mut i = 0u32;
-    while i < 256 {
-        pair(rows, i, LT_Z, i % 128, 7);
-        i += 1;
+    for i in 0..256 {
+        pair(rows, i, Rule::LtZ, i % 128, 7);
     }
 }
 
 fn full(rt: &impl Print, cells: &[u32]) -> io::Result<()> {
     let mut rows = [0u32; 6144];
     fill(&mut rows);
-    ask_pair(rt, b"full, the last", &mut rows, 256, cells, LT, 127, 7)?;
-    ask_pair(
+    ask(
         rt,
-        b"full, the lowest of the upper half",
+        "full, the last",
         &mut rows,
         256,
         cells,
-        LT,
-        0,
-        7,
+        wanted(Judgment::Lt(127, 7)),
     )?;
-    ask_pair(rt, b"full, the lower half", &mut rows, 128, cells, LT, 5, 7)?;
-    ask_pair(rt, b"full, not there", &mut rows, 256, cells, LT, 128, 7)
+    ask(
+        rt,
+        "full, the lowest of the upper half",
+        &mut rows,
+        256,
+        cells,
+        wanted(Judgment::Lt(0, 7)),
+    )?;
+    ask(
+        rt,
+        "full, the lower half",
+        &mut rows,
+        128,
+        cells,
+        wanted(Judgment::Lt(5, 7)),
+    )?;
+    ask(
+        rt,
+        "full, not there",
+        &mut rows,
+        256,
+        cells,
+        wanted(Judgment::Lt(128, 7)),
+    )
 }
 
 fn main(rt: HostRuntime) -> io::Result<()> {

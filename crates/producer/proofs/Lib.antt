@@ -1,4 +1,3 @@
 -- What the proofs of several functions use.
 mod Steps
-mod Laws
 mod At

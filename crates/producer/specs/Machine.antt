@@ -1,21 +1,17 @@
 -- The machine over words, and its steps: what a method of `State` is proved equal to. A term is the number of its cell.
 -- A row: 24 words as docs/FORMAT.md has them; its first working word is free, the second is the judgment's kind, the last four are the
 -- index's. Assumes nothing.
-use Rattle.std.specs.Prelude.{ℕ, ◌+◌, ◌*◌, ◌-◌, ◌%◌, ◌/◌, Bool, true, false, List, [], ◌∷◌, get_or, ltb, eqb}
+use Rattle.std.specs.Prelude.{ℕ, ◌+◌, ◌*◌, ◌-◌, ◌%◌, ◌/◌, Bool, true, false, List, [], ◌∷◌, get_or, ltb, eqb, Some, None}
 use Rattle.std.proofs.Math.Option.{Option, none, some}
 use Rattle.std.proofs.lemmas.List.Edits.{sets}
 use Rattle.walk.specs.Refusal as Refusal
 use Rattle.ast.specs.Words.{ifb, up, greater_of, all_eq}
-use Rattle.ast.specs.Cells.{cell_of, quote_of, same_quote_of, shape_of}
-use Rattle.ast.specs.Index.{last_on, end_on, linked, mixed, hash_4}
-use Rattle.ast.specs.Nodes.{find_node, lowest_of, link_cell, recall_of}
+use Rattle.ast.specs.Cells.{Found, cell_of, quote_of, same_quote_of, shape_of}
+use Rattle.ast.specs.Index.{last_on, linked, mixed, hash_4}
+use Rattle.ast.specs.Nodes.{Recalled, find_node, lowest_of, link_cell, recall_of}
 use Rattle.ast.specs.declared.cells.Cell.{Cell}
 use Rattle.ast.specs.declared.cells.Shape.{Shape}
 use Rattle.ast.specs.declared.cells.Shape.TheVariants.{Universe, Pi, Lam, Path, Plam, Sigma, Pair, Other}
-use Rattle.ast.specs.declared.cells.Found.{Found}
-use Rattle.ast.specs.declared.cells.Found.TheVariants.{At, Nothing}
-use Rattle.ast.specs.declared.cells.Recalled.{Recalled}
-use Rattle.ast.specs.declared.cells.Recalled.TheVariants.{Known, Unknown}
 use Rattle.producer.specs.declared.State.{State}
 use Rattle.producer.specs.declared.Tables.{Tables}
 use Rattle.producer.specs.declared.rows.Refs.{Refs}
@@ -206,8 +202,8 @@ new_cell k a b c = λ w.
 
 -- what is found, or else what follows
 unfoldable pub known_or : Found → W ℕ → W ℕ
-known_or (At n) m = give n
-known_or Nothing m = m
+known_or (Some n) m = give n
+known_or None m = m
 
 -- the cell with a kind and parts
 unfoldable pub intern : (k a b c : ℕ) → W ℕ
@@ -351,9 +347,6 @@ row_hash kind a b c d e = mixed (mixed (hash_4 kind a b c) d) e
 unfoldable pub find_row : List ℕ → (n kind a b c d e : ℕ) → Found
 find_row R n kind a b c d e = last_on row_slot quarter R n (same_row R kind a b c d e) 0 (row_hash kind a b c d e)
 
-unfoldable pub row_end : List ℕ → (n h : ℕ) → ℕ
-row_end R n h = end_on row_slot quarter R n 0 h 0
-
 unfoldable pub link_row : List ℕ → (n kind a b c d e : ℕ) → List ℕ
 link_row R n kind a b c d e = linked row_slot quarter R n (row_hash kind a b c d e)
 
@@ -380,8 +373,8 @@ emit_eq rule l d g a b ty = lowest g λ g'. lowest a λ a'. lowest b λ b'. lowe
 -- memory
 
 unfoldable pub recalled_or : Recalled → W (ℕ × ℕ) → W (ℕ × ℕ)
-recalled_or (Known ty row) m = give (ty, row)
-recalled_or Unknown m = m
+recalled_or (Some known) m = give known
+recalled_or None m = m
 
 unfoldable pub recall_or : (d g t : ℕ) → W (ℕ × ℕ) → W (ℕ × ℕ)
 recall_or d g t m = λ w. recalled_or (recall_of w.cells w.state.cells d g t) m w
@@ -391,8 +384,8 @@ unfoldable pub replace : (n type row : ℕ) → Machine → Machine
 replace n type row w = machine w.rows (sets w.cells (n * 8 + 4) (type ∷ row ∷ [])) w.state
 
 unfoldable pub remembered_or : Found → (type row : ℕ) → W (Unit {0}) → W (Unit {0})
-remembered_or (At n) type row m = λ w. is tt (replace n type row w)
-remembered_or Nothing type row m = m
+remembered_or (Some n) type row m = λ w. is tt (replace n type row w)
+remembered_or None type row m = m
 
 unfoldable pub new_memory : List ℕ → W (Unit {0})
 new_memory ws = λ w. ifb (ltb w.state.cells w.state.cellroom) (is tt (add_cell ws w)) (not Refusal.cells w)

@@ -8,7 +8,6 @@ ghost use Rattle.producer.specs.Calls.{callees};
 use crate::answers::Refused;
 use crate::{State, Tables};
 use ast::refusals;
-use ast::words::{greater, less};
 
 impl State {
     // No rows, cells or memory, with a nesting limit and room for so many rows and cells.
@@ -35,12 +34,12 @@ impl State {
     }
 
     // One level in, with `left` levels below it.
-    #[tactic(auto, unfolding(crate::specs::Machine::deeper_of))]
+    #[tactic(auto, unfolding(crate::specs::Machine::deeper_of, ast::specs::Words::greater_of))]
     pub fn deeper(mut self, left: u32) -> State
         ensures { result ≡ deeper_of self left }
     {
-        let depth = less(self.limit, left);
-        self.deepest = greater(self.deepest, depth);
+        let depth = self.limit.saturating_sub(left);
+        self.deepest = self.deepest.max(depth);
         self
     }
 

@@ -11,7 +11,6 @@ use crate::codes::{Judgment, Rule};
 use crate::rows::{Refs, cite};
 use crate::{State, Tables};
 use ast::cells::Cell;
-use ast::words::succ;
 use ast::{kinds, refusals};
 
 // What is done to an interval's dimensions: shift from k, put r for k.
@@ -144,7 +143,7 @@ impl State {
     }
 
     // The dimension `n`, shifted from `k` on.
-    #[tactic(auto, unfolding(crate::specs::Intervals::idim_shift, crate::proofs::Steps::steps, crate::proofs::Steps::stated))]
+    #[tactic(auto, unfolding(crate::specs::Intervals::idim_shift, crate::proofs::Steps::steps, crate::proofs::Steps::stated, ast::specs::Words::up))]
     pub fn idim_shift(
         self,
         left: u32,
@@ -166,7 +165,7 @@ impl State {
             i,
             op,
             kinds::DIM,
-            succ(n),
+            n.wrapping_add(1),
             0,
             Rule::IShiftDimGe,
             cite([x]),

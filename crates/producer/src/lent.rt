@@ -6,7 +6,7 @@ ghost use Rattle.producer.specs.Machine.{find_row};
 
 use crate::{Tables, rows};
 use ast::cells;
-use ast::cells::{Cell, Found, Recalled, Shape};
+use ast::cells::{Cell, Node, Shape};
 
 impl<'a> Tables<'a> {
     // The cell `i`.
@@ -38,28 +38,28 @@ impl<'a> Tables<'a> {
     }
 
     // The first cell below `n` with the kind and the parts.
-    pub fn find_node(&self, n: u32, kind: u32, a: u32, b: u32, c: u32) -> Found
-        ensures { result ≡ find_node self.now.cells.now n kind a b c }
+    pub fn find_node(&self, n: u32, node: Node) -> Option<u32>
+        ensures { result ≡ find_node self.now.cells.now n node.kind node.a node.b node.c }
     {
-        cells::find_node(self.cells, n, kind, a, b, c)
+        cells::find_node(self.cells, n, node)
     }
 
     // The lowest cell with the quote that a cell `n` of the kind and the parts has.
-    pub fn lowest(&self, n: u32, kind: u32, a: u32, b: u32, c: u32) -> u32
-        ensures { result ≡ lowest_of self.now.cells.now n kind a b c }
+    pub fn lowest(&self, n: u32, node: Node) -> u32
+        ensures { result ≡ lowest_of self.now.cells.now n node.kind node.a node.b node.c }
     {
-        cells::lowest(self.cells, n, kind, a, b, c)
+        cells::lowest(self.cells, n, node)
     }
 
     // What the cells below `n` remember of the inference.
-    pub fn recall(&self, n: u32, d: u32, g: u32, t: u32) -> Recalled
+    pub fn recall(&self, n: u32, d: u32, g: u32, t: u32) -> Option<(u32, u32)>
         ensures { result ≡ recall_of self.now.cells.now n d g t }
     {
         cells::recall(self.cells, n, d, g, t)
     }
 
     // The last row below `n` that has the judgment's kind and arguments.
-    pub fn find_row(&self, n: u32, kind: u32, a: u32, b: u32, c: u32, d: u32, e: u32) -> Found
+    pub fn find_row(&self, n: u32, kind: u32, a: u32, b: u32, c: u32, d: u32, e: u32) -> Option<u32>
         ensures { result ≡ find_row self.now.rows.now n kind a b c d e }
     {
         rows::find_row(self.rows, n, kind, a, b, c, d, e)

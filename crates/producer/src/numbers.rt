@@ -10,7 +10,6 @@ use crate::codes::{Judgment, Rule};
 use crate::rows::cite;
 use crate::{State, Tables};
 use ast::refusals;
-use ast::words::greater;
 
 impl State {
     // The row of `m < n`, or of `m <= n`; refuses (17) where it is not so.
@@ -69,7 +68,7 @@ impl State {
             tables,
             Rule::MaxSs,
             cite([x]),
-            Judgment::Max(m, n, greater(m, n)),
+            Judgment::Max(m, n, m.max(n)),
         )
     }
 }

@@ -1,19 +1,17 @@
 // Rows: 24 words each. Rule, cited rows (count, ten places), arguments (count, five places), six working words:
 // 18 stays 0, 19 is the judgment's kind, 20 to 23 are the index's. Nothing but `find_row` and `link_row` knows how a known judgment is found.
-ghost use Rattle.std.specs.Prelude.{◌≡◌, [], ◌∷◌, ◌+◌, ◌*◌};
+ghost use Rattle.std.specs.Prelude.{◌≡◌, ◌*◌};
 ghost use Rattle.std.proofs.lemmas.List.Edits.{sets};
-ghost use Rattle.ast.specs.Index.{onward};
 ghost use Rattle.producer.specs.Answers.{end};
 ghost use Rattle.producer.specs.Judgments.{emit_as, rule_number};
-ghost use Rattle.producer.specs.Machine.{over, row_slot, quarter, row_hash, find_row, row_end, link_row, cons_refs, join_refs, refs_of, row_block, same_row, emit_has, emit_eq};
+ghost use Rattle.producer.specs.Machine.{over, row_slot, quarter, row_hash, find_row, link_row, cons_refs, join_refs, refs_of, row_block, same_row, emit_has, emit_eq};
 
 use crate::answers::Answer;
 use crate::codes::{Judgment, Rule, Words};
 use crate::{State, Tables};
-use ast::cells::Found;
-use ast::index::{hash, kept, later, mix};
+use ast::index::{Indexed, hash, last, link, mix};
 use ast::refusals;
-use ast::words::{put, succ, word};
+use ast::words::{put_all, word};
 
 // The rows cited: how many, and ten words.
 #[derive(Clone, Copy)]
@@ -32,11 +30,11 @@ pub struct Refs {
 }
 
 // A row cited before others.
-#[tactic(auto, unfolding(crate::specs::Machine::cons_refs))]
+#[tactic(auto, unfolding(crate::specs::Machine::cons_refs, ast::specs::Words::up))]
 pub fn cite_before(x: u32, refs: Refs) -> Refs
     ensures { result ≡ cons_refs x refs }
 {
-    let count = succ(refs.count);
+    let count = refs.count.wrapping_add(1);
     Refs {
         count,
         r0: x,
@@ -96,22 +94,17 @@ pub fn row_start(i: u32) -> usize
 
 // Whether row `i` has the judgment's kind and arguments. The third argument is looked at first: it tells most rows apart, and a search
 // goes through many.
+#[tactic(auto, unfolding(crate::specs::Machine::same_row, ast::specs::Words::all_eq))]
 pub fn same_row(rows: &[u32], i: u32, kind: u32, a: u32, b: u32, c: u32, d: u32, e: u32) -> bool
     ensures { result ≡ same_row rows.now kind a b c d e i }
 {
     let at = row_start(i);
-    if word(rows, at + 15) == c {
-        if word(rows, at + 14) == b {
-            if word(rows, at + 19) == kind {
-                if word(rows, at + 13) == a {
-                    if word(rows, at + 16) == d {
-                        return word(rows, at + 17) == e;
-                    }
-                }
-            }
-        }
-    }
-    false
+    word(rows, at + 15) == c
+        && word(rows, at + 14) == b
+        && word(rows, at + 19) == kind
+        && word(rows, at + 13) == a
+        && word(rows, at + 16) == d
+        && word(rows, at + 17) == e
 }
 
 // The hash of a judgment.
@@ -124,95 +117,49 @@ pub fn row_hash(kind: u32, a: u32, b: u32, c: u32, d: u32, e: u32) -> u32
     mix(h1, e)
 }
 
-// Where the number of the row after `i` on a path stands.
-#[tactic(auto, unfolding(crate::specs::Machine::row_slot))]
-pub fn row_slot(i: u32, h: u32) -> usize
-    ensures { result ≡ row_slot i h }
-{
-    (i as usize) * 24 + 20 + ((h % 4) as usize)
-}
+// The table of rows, as one that is indexed: four children of a row stand in its last words.
+pub struct Rows;
 
-// The row after `i` on a path: `n` where there is none.
-#[tactic(auto, unfolding(crate::specs::Machine::row_slot, crate::specs::Machine::quarter))]
-pub fn next_row(rows: &[u32], n: u32, i: u32, h: u32) -> u32
-    ensures { result ≡ onward row_slot quarter rows.now n i h }
-{
-    let at = row_slot(i, h);
-    let j = word(rows, at);
-    later(n, i, j)
+impl Indexed for Rows {
+    ghost slot = { row_slot };
+
+    ghost rest = { quarter };
+
+    #[tactic(auto, unfolding(crate::specs::Machine::row_slot))]
+    fn slot(i: u32, h: u32) -> usize {
+        (i as usize) * 24 + 20 + ((h % 4) as usize)
+    }
+
+    #[tactic(auto, unfolding(crate::specs::Machine::quarter))]
+    fn rest(h: u32) -> u32 {
+        h / 4
+    }
 }
 
 // The last row below `n` that has the judgment's kind and arguments.
-#[tactic(auto, unfolding(crate::specs::Machine::find_row))]
-pub fn find_row(rows: &[u32], n: u32, kind: u32, a: u32, b: u32, c: u32, d: u32, e: u32) -> Found
-    ensures { result ≡ find_row rows.now n kind a b c d e }
-{
-    let mut h = row_hash(kind, a, b, c, d, e);
-    let mut i = 0u32;
-    let mut last = Found::Nothing;
-    while i < n {
-        let same = same_row(rows, i, kind, a, b, c, d, e);
-        last = kept(same, i, last);
-        i = next_row(rows, n, i, h);
-        h = h / 4;
-    }
-    last
-}
-
-// Where the number of a row that comes has to stand.
-#[tactic(auto, unfolding(crate::specs::Machine::row_end))]
-pub fn row_end(rows: &[u32], n: u32, hash: u32) -> usize
-    ensures { result ≡ row_end rows.now n hash }
-{
-    let mut h = hash;
-    let mut i = 0u32;
-    let mut at = 0usize;
-    while i < n {
-        at = row_slot(i, h);
-        i = next_row(rows, n, i, h);
-        h = h / 4;
-    }
-    at
-}
-
-// The row `n` with the judgment comes at the end of its path.
-#[tactic(auto, unfolding(crate::specs::Machine::link_row, crate::specs::Machine::row_end))]
-pub fn link_row(rows: &mut [u32], n: u32, kind: u32, a: u32, b: u32, c: u32, d: u32, e: u32)
-    ensures { rows.new ≡ link_row rows.old n kind a b c d e }
-{
-    if 0 < n {
-        let h = row_hash(kind, a, b, c, d, e);
-        let at = row_end(rows, n, h);
-        put(rows, at, n);
-    }
-}
-
-// Stores eight words of row `n`: a third of it.
-pub fn put_third(
-    rows: &mut [u32],
+pub fn find_row(
+    rows: &[u32],
     n: u32,
-    third: u8,
+    kind: u32,
     a: u32,
     b: u32,
     c: u32,
     d: u32,
     e: u32,
-    f: u32,
-    g: u32,
-    h: u32,
-)
-    ensures { rows.new ≡ sets rows.old (n * 24 + third * 8) (a ∷ b ∷ c ∷ d ∷ e ∷ f ∷ g ∷ h ∷ []) }
+) -> Option<u32>
+    ensures { result ≡ find_row rows.now n kind a b c d e }
 {
-    let start = row_start(n);
-    let at = start + (third as usize) * 8;
-    put(rows, at, a);
-    put(rows, at + 1, b);
-    put(rows, at + 2, c);
-    put(rows, at + 3, d);
-    put(rows, at + 4, e);
-    put(rows, at + 5, f);
-    put(rows, at + 6, g);
-    put(rows, at + 7, h);
+    let h = row_hash(kind, a, b, c, d, e);
+    last::<Rows, _>(rows, n, h, |i| same_row(rows, i, kind, a, b, c, d, e))
+}
+
+// The row `n` with the judgment comes at the end of its path.
+#[tactic(auto, unfolding(crate::specs::Machine::link_row))]
+pub fn link_row(rows: &mut [u32], n: u32, kind: u32, a: u32, b: u32, c: u32, d: u32, e: u32)
+    ensures { rows.new ≡ link_row rows.old n kind a b c d e }
+{
+    let h = row_hash(kind, a, b, c, d, e);
+    link::<Rows>(rows, n, h);
 }
 
 // Stores row `n`.
@@ -231,13 +178,11 @@ pub fn put_row(
 )
     ensures { rows.new ≡ sets rows.old (n * 24) (row_block rule refs kind count a b c d e) }
 {
-    put_third(
-        rows, n, 0, rule, refs.count, refs.r0, refs.r1, refs.r2, refs.r3, refs.r4, refs.r5,
-    );
-    put_third(
-        rows, n, 1, refs.r6, refs.r7, refs.r8, refs.r9, count, a, b, c,
-    );
-    put_third(rows, n, 2, d, e, 0, kind, 0, 0, 0, 0);
+    let row = [
+        rule, refs.count, refs.r0, refs.r1, refs.r2, refs.r3, refs.r4, refs.r5, refs.r6, refs.r7,
+        refs.r8, refs.r9, count, a, b, c, d, e, 0, kind, 0, 0, 0, 0,
+    ];
+    put_all(rows, row_start(n), &row);
 }
 
 impl State {
@@ -263,8 +208,8 @@ impl State {
             e,
         } = judgment.words();
         match tables.find_row(n, kind, a, b, c, d, e) {
-            Found::At(i) => Ok((self, i)),
-            Found::Nothing => {
+            Some(i) => Ok((self, i)),
+            None => {
                 if n < self.rowroom {
                     link_row(tables.rows, n, kind, a, b, c, d, e);
                     put_row(

@@ -7,8 +7,8 @@ ghost use Rattle.producer.specs.Calls.{callees};
 
 use crate::answers::{Answer, Refused};
 use crate::{State, Tables};
-use ast::cells::{Found, link_cell, put_again, put_cell};
-use ast::{kinds, refusals};
+use ast::cells::{Node, inference, link_cell, put_again, put_cell};
+use ast::refusals;
 
 impl State {
     // The cell with the kind and the parts: the one that has them, or a new one; refuses (20) where none is left.
@@ -17,13 +17,14 @@ impl State {
         ensures { end result tables.new ≡ intern kind a b c (over tables.old self) }
     {
         let n = self.cells;
-        match tables.find_node(n, kind, a, b, c) {
-            Found::At(i) => Ok((self, i)),
-            Found::Nothing => {
+        let node = Node { kind, a, b, c };
+        match tables.find_node(n, node) {
+            Some(i) => Ok((self, i)),
+            None => {
                 if n < self.cellroom {
-                    let quote = tables.lowest(n, kind, a, b, c);
-                    link_cell(tables.cells, n, kind, a, b, c);
-                    put_cell(tables.cells, n, kind, a, b, c, quote, 0, 0, 0);
+                    let quote = tables.lowest(n, node);
+                    link_cell(tables.cells, n, node);
+                    put_cell(tables.cells, n, node, quote, 0, 0, 0);
                     self.cells = n + 1;
                     return Ok((self, n));
                 }
@@ -46,15 +47,16 @@ impl State {
         ensures { end_state result tables.new ≡ remember d g t ty row (over tables.old self) }
     {
         let n = self.cells;
-        match tables.find_node(n, kinds::INFERENCE, d, g, t) {
-            Found::At(i) => {
+        let key = inference(d, g, t);
+        match tables.find_node(n, key) {
+            Some(i) => {
                 put_again(tables.cells, i, ty, row);
                 Ok(self)
             }
-            Found::Nothing => {
+            None => {
                 if n < self.cellroom {
-                    link_cell(tables.cells, n, kinds::INFERENCE, d, g, t);
-                    put_cell(tables.cells, n, kinds::INFERENCE, d, g, t, ty, row, 0, 0);
+                    link_cell(tables.cells, n, key);
+                    put_cell(tables.cells, n, key, ty, row, 0, 0);
                     self.cells = n + 1;
                     return Ok(self);
                 }

@@ -12,7 +12,6 @@ use crate::intervals::IOp;
 use crate::rows::{Refs, cite, cite_before, cite_first};
 use crate::{State, Tables};
 use ast::cells::Cell;
-use ast::words::succ;
 use ast::{kinds, refusals};
 
 // What is done to a term: shift from k, put r for k; of variables, or of dimensions.
@@ -220,7 +219,7 @@ impl State {
     }
 
     // The variable `n`, shifted from `k` on.
-    #[tactic(auto, unfolding(crate::specs::Transforms::tvar_shift, crate::proofs::Steps::steps, crate::proofs::Steps::stated))]
+    #[tactic(auto, unfolding(crate::specs::Transforms::tvar_shift, crate::proofs::Steps::steps, crate::proofs::Steps::stated, ast::specs::Words::up))]
     pub fn tvar_shift(
         self,
         left: u32,
@@ -237,7 +236,7 @@ impl State {
             return s.finish(tables, i, op, i, Rule::ShiftVLt, cite([x]));
         }
         let (s, x) = self.comparison(left, tables, k, n, false)?;
-        s.tmake_var(tables, i, op, succ(n), Rule::ShiftVGe, cite([x]))
+        s.tmake_var(tables, i, op, n.wrapping_add(1), Rule::ShiftVGe, cite([x]))
     }
 
     // The variable `n`, where `r` is put for `k`.
@@ -545,19 +544,19 @@ impl State {
                 if dimension {
                     return Ok((s0, (op, cite([]))));
                 }
-                Ok((s0, (Op::Shift(succ(k)), cite([]))))
+                Ok((s0, (Op::Shift(k.wrapping_add(1)), cite([]))))
             }
             Op::Subst(k, r) => s0.under_subst(down, tables, k, r, dimension),
             Op::DShift(k) => {
                 if dimension {
-                    return Ok((s0, (Op::DShift(succ(k)), cite([]))));
+                    return Ok((s0, (Op::DShift(k.wrapping_add(1)), cite([]))));
                 }
                 Ok((s0, (op, cite([]))))
             }
             Op::DSubst(k, r) => {
                 if dimension {
                     let (s, (r1, x)) = s0.itransform(down, tables, r, IOp::IShift(0))?;
-                    return Ok((s, (Op::DSubst(succ(k), r1), cite([x]))));
+                    return Ok((s, (Op::DSubst(k.wrapping_add(1), r1), cite([x]))));
                 }
                 Ok((s0, (op, cite([]))))
             }
@@ -581,6 +580,6 @@ impl State {
             return Ok((s, (Op::Subst(k, r1), cite([x]))));
         }
         let (s, (r1, x)) = self.transform(left, tables, r, Op::Shift(0))?;
-        Ok((s, (Op::Subst(succ(k), r1), cite([x]))))
+        Ok((s, (Op::Subst(k.wrapping_add(1), r1), cite([x]))))
     }
 }

@@ -12,8 +12,7 @@ use crate::codes::{Judgment, Rule};
 use crate::rows::cite;
 use crate::transforms::Op;
 use crate::{State, Tables};
-use ast::cells::{Found, Recalled, Shape};
-use ast::words::{greater, succ};
+use ast::cells::Shape;
 use ast::{kinds, refusals};
 
 impl State {
@@ -29,8 +28,8 @@ impl State {
         let s0 = self.deeper(down);
         let cell = tables.read(g);
         match tables.find_row(s0.rows, 0, d, cell.quote, 0, 0, 0) {
-            Found::At(i) => Ok((s0, i)),
-            Found::Nothing => {
+            Some(i) => Ok((s0, i)),
+            None => {
                 if cell.kind == kinds::NIL {
                     return s0.emit(tables, Rule::CtxNil, cite([]), Judgment::Ctx(d, cell.quote));
                 }
@@ -231,8 +230,8 @@ impl State {
         let down = left - 1;
         let s0 = self.deeper(down);
         match tables.recall(s0.cells, d, g, t) {
-            Recalled::Known(ty, row) => Ok((s0, (ty, row))),
-            Recalled::Unknown => {
+            Some(known) => Ok((s0, known)),
+            None => {
                 let (s1, (ty, refs, rule)) = s0.find(down, tables, d, g, t)?;
                 let (s2, row) = s1.emit_has(tables, rule, refs, d, g, t, ty)?;
                 let s3 = s2.remember(tables, d, g, t, ty, row)?;
@@ -249,7 +248,7 @@ impl State {
         let cell = tables.read(t);
         match cell.kind {
             kinds::UNIVERSE => {
-                let up = succ(cell.a);
+                let up = cell.a.wrapping_add(1);
                 self.atom(left, tables, d, g, kinds::UNIVERSE, up, Rule::TypeU)
             }
             kinds::VAR => self.var(left, tables, d, g, cell.a),
@@ -315,7 +314,7 @@ impl State {
         let (s2, h) = s1.prepare(left, tables, kinds::CONS, a, g)?;
         let (s3, (j, y)) = s2.universe(left, tables, d, h, b)?;
         let (s4, z) = s3.max(left, tables, i, j)?;
-        let top = greater(i, j);
+        let top = i.max(j);
         let (s5, ty) = s4.intern(tables, kinds::UNIVERSE, top, 0, 0)?;
         Ok((s5, (ty, cite([x, y, z]), rule)))
     }
@@ -392,7 +391,7 @@ impl State {
     {
         let (s1, x0) = self.ctx(left, tables, d, g)?;
         let (s2, (inner, x1)) = s1.dshiftctx(left, tables, g)?;
-        let up = succ(d);
+        let up = d.wrapping_add(1);
         let (s3, (level, x2)) = s2.universe(left, tables, up, inner, a)?;
         let (s4, (low, high, x3, x4)) = s3.ends(left, tables, a)?;
         let (s5, x5) = s4.check(left, tables, d, g, b, low)?;
@@ -416,7 +415,7 @@ impl State {
     {
         let (s1, x0) = self.ctx(left, tables, d, g)?;
         let (s2, (inner, x1)) = s1.dshiftctx(left, tables, g)?;
-        let up = succ(d);
+        let up = d.wrapping_add(1);
         let (s3, (_, x2)) = s2.universe(left, tables, up, inner, a)?;
         let (s4, x3) = s3.check(left, tables, up, inner, body, a)?;
         let (s5, (a0, a1, x4, x5)) = s4.ends(left, tables, a)?;

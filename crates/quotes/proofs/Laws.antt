@@ -1,33 +1,32 @@
 -- Laws of the definitions, by which the functions' proofs go. Assumes nothing.
-use mathlib.Core.Path.{◌≡◌}
-use mathlib.Core.List.{List, [], ◌++◌}
-use Prim.Native.Nat.{ℕ}
-use borrow.Author.Tests.{eq-eqb, ne_eqb}
+use Rattle.std.specs.Prelude.{ℕ, ◌≡◌, ◌⊎◌, List, ◌++◌, Option, Some, None}
+use Rattle.std.proofs.Common.{inl, inr, ap}
 use Rattle.rules.specs.Names.{bytes, node_name}
 use Rattle.rules.specs.Kinds.{part_of}
-use Rattle.writer.specs.Text.{Text, decimal}
-use Rattle.quotes.specs.Quotes.{argument, part_as, node_as}
+use Rattle.rules.specs.declared.Part.{Part}
+use Rattle.rules.specs.declared.Sort.{Sort}
+use Rattle.rules.specs.declared.Sort.TheVariants.{Term, Interval, Context}
+use Rattle.writer.specs.Text.{Text}
+use Rattle.writer.specs.Window.{put, written}
+use Rattle.writer.specs.declared.Writer.{Writer}
+use Rattle.writer.proofs.Laws.{written_append, written_cons, written_nil}
+use Rattle.quotes.specs.Quotes.{by_sort, part_as, node_as}
 
--- arguments and parts, by their sorts
+-- Terms, intervals and contexts are quoted.
+pub quoted : (quote : ℕ → Text) (sort : Sort) (x : ℕ) → (sort ≡ Term) ⊎ ((sort ≡ Interval) ⊎ (sort ≡ Context)) → by_sort quote sort x ≡ quote x
+unfolding by_sort
+quoted quote sort x (inl e) = rw e
+quoted quote sort x (inr (inl e)) = rw e
+quoted quote sort x (inr (inr e)) = rw e
 
-pub argument_absent : (q : ℕ → Text) (sort x : ℕ) → sort ≡ 0 → argument q sort x ≡ []
-unfolding argument
-argument_absent q sort x h = rw (eq-eqb _ _ h, argument)
-
-pub argument_number : (q : ℕ → Text) (sort x : ℕ) → (sort ≡ 0 → ⊥) → sort ≡ 1 → argument q sort x ≡ bytes " " ++ decimal x
-unfolding argument
-argument_number q sort x h k = rw (ne_eqb _ _ h, argument, eq-eqb _ _ k, argument)
-
-pub argument_quote : (q : ℕ → Text) (sort x : ℕ) → (sort ≡ 0 → ⊥) → (sort ≡ 1 → ⊥) → argument q sort x ≡ bytes " " ++ q x
-unfolding argument
-argument_quote q sort x h k = rw (ne_eqb _ _ h, argument, ne_eqb _ _ k, argument)
-
--- nodes, by whether they have parts
-
-pub node_atom : (q : ℕ → Text) (C : List ℕ) (i kind : ℕ) → (part_of kind 0).sort ≡ 0 → node_as q C i kind ≡ node_name kind
+-- A node, by whether it has parts.
+pub node_atom : (q : ℕ → Text) (C : List ℕ) (i kind : ℕ) → part_of kind 0 ≡ None → node_as q C i kind ≡ node_name kind
 unfolding node_as
-node_atom q C i kind h = rw (eq-eqb _ _ h, node_as)
+node_atom q C i kind h = rw (h, node_as)
 
-pub node_parts : (q : ℕ → Text) (C : List ℕ) (i kind : ℕ) → ((part_of kind 0).sort ≡ 0 → ⊥) → node_as q C i kind ≡ bytes "(" ++ node_name kind ++ part_as q C i kind 0 ++ part_as q C i kind 1 ++ part_as q C i kind 2 ++ bytes ")"
+pub node_parts : (q : ℕ → Text) (C : List ℕ) (i kind : ℕ) (first : Part) → part_of kind 0 ≡ Some first → node_as q C i kind ≡ bytes "(" ++ node_name kind ++ part_as q C i kind 0 ++ part_as q C i kind 1 ++ part_as q C i kind 2 ++ bytes ")"
 unfolding node_as
-node_parts q C i kind h = rw (ne_eqb _ _ h, node_as)
+node_parts q C i kind first h = ap (λ (p : Option Part). elim p as (λ _. Text) [ None ↦ node_name kind | Some _ ↦ bytes "(" ++ node_name kind ++ part_as q C i kind 0 ++ part_as q C i kind 1 ++ part_as q C i kind 2 ++ bytes ")" ]) h
+
+pub written_node : (name a b c : Text) (w : Writer) → written (bytes "(" ++ name ++ a ++ b ++ c ++ bytes ")") w ≡ put 41 (written c (written b (written a (written name (put 40 w)))))
+written_node name a b c w = rw (written_append, written_append, written_append, written_append, written_append) (rw (written_cons, written_nil) (rw (written_cons, written_nil)))

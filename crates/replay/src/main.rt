@@ -2,421 +2,252 @@
 // and that no word past the used ones changed. How a stored run is laid out: tools/compare/src/vectors.rs.
 #![tactic(auto)]
 
-ghost use Rattle.std.specs.Prelude.{◌<◌};
+ghost use Rattle.std.specs.Prelude.{◌+◌, ◌≤◌};
 
 use ran::Ran;
-use std::io;
+use std::alloc::{AllocError, Global};
+use std::{fmt, io};
 use syntax::call_codes;
-use text::Piece;
+use text::{Calls, Piece, Table, Words};
 
 // What the slices hold before a run.
 const FILL: u32 = 2779096485;
 
-// What was compared so far.
+// How many calls a stored run has at most.
+const CALLS: usize = 4096;
+
+// How many bytes of a text are shown at a time.
+const PART: usize = 16384;
+
+// The head of a stored run: 28 bytes, its name, then six words.
 #[derive(Clone, Copy)]
+struct Head {
+    name: [u8; 28],
+    // Words that are lent of the row table, of the cell store and of the answers.
+    rows: usize,
+    cells: usize,
+    answers: usize,
+    // Bytes of the run, and how many of them are stored; the others are 0.
+    bytes: usize,
+    stored: usize,
+    // Bytes of the text.
+    text: usize,
+}
+
+impl Head {
+    // The next head of standard input, if there is one more.
+    fn read(rt: &impl Input) -> io::Result<Option<Head>> {
+        let mut name = [0u8; 28];
+        let mut words = [0u8; 24];
+        if stdio::read_full(rt, &mut name)? < name.len() {
+            return Ok(None);
+        }
+        if stdio::read_full(rt, &mut words)? < words.len() {
+            return Ok(None);
+        }
+        Ok(Some(Head {
+            name,
+            rows: word(&words, 0),
+            cells: word(&words, 4),
+            answers: word(&words, 8),
+            bytes: word(&words, 12),
+            stored: word(&words, 16),
+            text: word(&words, 20),
+        }))
+    }
+
+    // The run's bytes, the next ones of standard input, and zeros after them.
+    fn read_run(&self, rt: &(impl Input + AllocGlobal)) -> io::Result<Vec<u8>> {
+        let mut bytes = vec![in rt.alloc(); 0; self.bytes]?;
+        stdio::read_full(rt, &mut bytes[..self.stored.min(self.bytes)])?;
+        Ok(bytes)
+    }
+
+    // The text, the next bytes of standard input.
+    fn read_text(&self, rt: &(impl Input + AllocGlobal)) -> io::Result<Vec<u8>> {
+        let mut text = vec![in rt.alloc(); 0; self.text]?;
+        stdio::read_full(rt, &mut text)?;
+        Ok(text)
+    }
+}
+
+// The word at an offset, low byte first.
+fn word(words: &[u8; 24], at: usize) -> usize
+    requires { at + 4 ≤ 24 }
+{
+    u32::from_le_bytes([words[at], words[at + 1], words[at + 2], words[at + 3]]) as usize
+}
+
+// A run, its calls' codes and what it left in the slices that it was lent.
+#[derive(Drop)]
+struct Left {
+    run: Ran,
+    codes: Vec<u8>,
+    answers: Vec<u32>,
+    rows: Vec<u32>,
+    cells: Vec<u32>,
+}
+
+impl Left {
+    // Plays a run in slices of so many words as the head says.
+    fn play(alloc: Global, head: &Head, bytes: &[u8]) -> Result<Left, AllocError> {
+        let mut rows = vec![in alloc; FILL; head.rows]?;
+        let mut cells = vec![in alloc; FILL; head.cells]?;
+        let mut answers = vec![in alloc; FILL; head.answers]?;
+        let mut codes = vec![in alloc; 0; CALLS]?;
+        let run = run::entry::run(bytes, &mut rows, &mut cells, &mut answers);
+        call_codes(bytes, &mut codes);
+        Ok(Left {
+            run,
+            codes,
+            answers,
+            rows,
+            cells,
+        })
+    }
+
+    // The words that the listing is made of.
+    fn words(&self) -> Words<'_> {
+        Words {
+            run: self.run,
+            calls: Calls {
+                codes: &self.codes,
+                answers: &self.answers,
+            },
+            table: Table {
+                rows: &self.rows,
+                cells: &self.cells,
+            },
+        }
+    }
+
+    // Whether the text is the stored one; says where they part.
+    fn has_text(&self, rt: &impl Print, stored: &[u8]) -> io::Result<bool> {
+        let words = self.words();
+        let mut buf = [0u8; PART];
+        let mut same = true;
+        for (i, part) in stored.chunks(PART).enumerate() {
+            let seen = words.window(Piece::Listing, PART * i, 0, &mut buf);
+            let came = &buf[..seen.put];
+            let at = alike(part, came);
+            if at < part.len() {
+                print!(rt; "\nfrom byte {} on, past {at} bytes, stored: ", PART * i)?;
+                rt.write_all(line(part, at))?;
+                print!(rt; "\ncame: ")?;
+                rt.write_all(line(came, at))?;
+                println!(rt)?;
+                same = false;
+                break;
+            }
+        }
+        let more = words.window(Piece::Listing, stored.len(), 0, &mut buf);
+        if 0 < more.put {
+            print!(rt; "\nmore came: ")?;
+            rt.write_all(line(&buf[..more.put], 0))?;
+            println!(rt)?;
+            same = false;
+        }
+        Ok(same)
+    }
+
+    // Whether the words past the used ones are as they were; says where not.
+    fn has_kept(&self, rt: &impl Print) -> io::Result<bool> {
+        let mut kept = true;
+        for (label, words, used) in [
+            ("rows", &self.rows, 24 * self.run.rows as usize),
+            ("cells", &self.cells, 8 * self.run.cells as usize),
+            ("answers", &self.answers, 4 * self.run.calls as usize),
+        ] {
+            if !words.iter().skip(used).all(|word| *word == FILL) {
+                println!(rt; "\n{label} past the used ones changed")?;
+                kept = false;
+            }
+        }
+        Ok(kept)
+    }
+
+    // A run that is refused as a whole has no calls, rows or cells; the text doesn't show that.
+    fn is_fair(&self) -> bool {
+        let Ran {
+            number,
+            calls,
+            rows,
+            cells,
+            ..
+        } = self.run;
+        number == 0 || (calls == 0 && rows == 0 && cells == 0)
+    }
+}
+
+// How many bytes at the start of two texts are alike.
+fn alike(a: &[u8], b: &[u8]) -> usize {
+    a.iter().zip(b).take_while(|(x, y)| **x == **y).count()
+}
+
+// The rest of a line from an offset on, or what there is of it.
+fn line(text: &[u8], from: usize) -> &[u8] {
+    let rest = text.get(from..).unwrap_or(&[]);
+    rest.split(|byte| *byte == b'\n').next().unwrap_or(&[])
+}
+
+// Plays the run of a head and compares what it left with what is stored: the number of its calls, or `None` where they differ.
+fn replay(rt: &(impl Input + Print + AllocGlobal), head: &Head) -> io::Result<Option<u32>> {
+    let bytes = head.read_run(rt)?;
+    let stored = head.read_text(rt)?;
+    let left = Left::play(rt.alloc(), head, &bytes)?;
+    let same = left.has_text(rt, &stored)?;
+    let kept = left.has_kept(rt)?;
+    Ok((same && kept && left.is_fair()).then_some(left.run.calls))
+}
+
+// What was compared so far.
+#[derive(Clone, Copy, Default)]
 struct Tally {
     runs: u32,
     calls: u32,
     wrong: u32,
 }
 
-fn say(rt: &impl Print, s: &[u8]) -> io::Result<()> {
-    rt.write_all(s)
-}
-
-fn count(rt: &impl Print, n: usize) -> io::Result<()> {
-    rt.print(n)
-}
-
-fn wide(b: u8) -> usize
-    ensures { result < 256 }
-{
-    b as usize
-}
-
-// The byte at `i`, and 0 past the end.
-fn byte(s: &[u8], i: usize) -> u8 {
-    if i < s.len() { s[i] } else { 0 }
-}
-
-// The word at `at` of a stored run's head, low byte first. The head has 28 bytes of the run's name, then six words: rows, cells,
-// answers, bytes of the run, those of them that are stored (the others are 0), bytes of the text.
-fn word(s: &[u8; 52], at: u8) -> usize {
-    let i = at as usize;
-    let a = wide(byte(s, i));
-    let b = wide(byte(s, i + 1));
-    let c = wide(byte(s, i + 2));
-    let d = wide(byte(s, i + 3));
-    a + 256 * b + 65536 * c + 16777216 * d
-}
-
-fn fill(s: &mut [u32]) {
-    let mut i: usize = 0;
-    while i < s.len() {
-        s[i] = FILL;
-        i += 1;
-    }
-}
-
-fn clear(s: &mut [u8]) {
-    let mut i: usize = 0;
-    while i < s.len() {
-        s[i] = 0;
-        i += 1;
-    }
-}
-
-// Whether the words from `from` on are as they were.
-fn kept(s: &[u32], from: usize) -> bool {
-    let mut i = from;
-    while i < s.len() {
-        if s[i] != FILL {
-            return false;
+impl Tally {
+    // One more run, of so many calls, or one that differs.
+    fn count(&mut self, calls: Option<u32>) {
+        self.runs = self.runs.saturating_add(1);
+        match calls {
+            Some(n) => self.calls = self.calls.saturating_add(n),
+            None => self.wrong = self.wrong.saturating_add(1),
         }
-        i += 1;
     }
-    true
 }
 
-// Where two texts of `size` bytes differ first; `size` where they don't.
-fn apart(a: &[u8; 16384], b: &[u8; 16384], size: usize) -> usize {
-    let mut i: usize = 0;
-    while i < 16384 {
-        if i == size {
-            return i;
+impl fmt::Display for Tally {
+    fn fmt<W: fmt::Write>(&self, f: &mut fmt::Formatter<W>) -> fmt::Result {
+        let Tally { runs, calls, wrong } = *self;
+        write!(f, "{runs} runs, {calls} calls: ")?;
+        if wrong == 0 {
+            write!(f, "all as stored")
+        } else {
+            write!(f, "{wrong} runs differ")
         }
-        if a[i] != b[i] {
-            return i;
-        }
-        i += 1;
     }
-    i
-}
-
-// The text from `from` on, at most the buffer's length of it; how many bytes came.
-fn shown(
-    run: Ran,
-    codes: &[u8],
-    answers: &[u32],
-    rows: &[u32],
-    cells: &[u32],
-    from: usize,
-    buf: &mut [u8; 16384],
-) -> usize {
-    let seen = text::window(
-        Piece::Listing,
-        run,
-        codes,
-        answers,
-        rows,
-        cells,
-        from,
-        0,
-        buf,
-    );
-    seen.put
-}
-
-// The rest of a line, or what there is of it in the buffer.
-fn line(rt: &impl Print, label: &[u8], s: &[u8; 16384], from: usize) -> io::Result<()> {
-    say(rt, label)?;
-    let mut i = from;
-    while i < 16384 {
-        let b = s[i];
-        // The line's end, or the text's: the buffer was 0.
-        if b <= 10 {
-            break;
-        }
-        say(rt, &[b])?;
-        i += 1;
-    }
-    say(rt, b"\n")
-}
-
-// The next bytes of standard input, into the first of the buffer.
-fn take(rt: &impl Input, buf: &mut [u8], size: usize) -> io::Result<()> {
-    if size <= buf.len() {
-        stdio::read_full(rt, &mut buf[..size])?;
-    }
-    Ok(())
-}
-
-fn text_of(rt: &impl Input, buf: &mut [u8; 16384], size: usize) -> io::Result<()> {
-    take(rt, buf, size)
-}
-
-// Reads the next `size` bytes of the stored text, and compares what came with them; says where they part, unless an earlier part did.
-fn part(
-    rt: &(impl Input + Print),
-    run: Ran,
-    codes: &[u8],
-    answers: &[u32],
-    rows: &[u32],
-    cells: &[u32],
-    from: usize,
-    size: usize,
-    good: bool,
-) -> io::Result<bool> {
-    let mut stored = [0u8; 16384];
-    let mut came = [0u8; 16384];
-    text_of(rt, &mut stored, size)?;
-    shown(run, codes, answers, rows, cells, from, &mut came);
-    let at = apart(&stored, &came, size);
-    if at == size {
-        return Ok(good);
-    }
-    if good {
-        say(rt, b"\nfrom byte ")?;
-        count(rt, from)?;
-        say(rt, b" on, past ")?;
-        count(rt, at)?;
-        line(rt, b" bytes, stored: ", &stored, at)?;
-        line(rt, b"came: ", &came, at)?;
-    }
-    Ok(false)
-}
-
-// Whether the text is the stored one, which has `total` bytes.
-fn texts(
-    rt: &(impl Input + Print),
-    run: Ran,
-    codes: &[u8],
-    answers: &[u32],
-    rows: &[u32],
-    cells: &[u32],
-    total: usize,
-) -> io::Result<bool> {
-    let mut good = true;
-    let mut from: usize = 0;
-    while from < total {
-        let rest = total - from;
-        if rest < 16384 {
-            good = part(rt, run, codes, answers, rows, cells, from, rest, good)?;
-            break;
-        }
-        good = part(rt, run, codes, answers, rows, cells, from, 16384, good)?;
-        from += 16384;
-    }
-    let mut more = [0u8; 16384];
-    let n = shown(run, codes, answers, rows, cells, total, &mut more);
-    if 0 < n {
-        line(rt, b"\nmore came: ", &more, 0)?;
-        return Ok(false);
-    }
-    Ok(good)
-}
-
-// Whether the words past the used ones are as they were.
-fn past(rt: &impl Print, s: &[u32], used: usize, label: &[u8]) -> io::Result<bool> {
-    if kept(s, used) {
-        return Ok(true);
-    }
-    say(rt, label)?;
-    Ok(false)
-}
-
-// More calls than any run has.
-const WRONG: u32 = 4294967295;
-
-// A run that is refused as a whole has no calls, rows or cells; the text doesn't show that.
-fn fair(run: Ran) -> bool {
-    if run.number == 0 {
-        return true;
-    }
-    (run.calls == 0) & (run.rows == 0) & (run.cells == 0)
-}
-
-// Whether a run left what is stored; gives the number of its calls, or `WRONG`.
-fn judge(
-    rt: &(impl Input + Print),
-    run: Ran,
-    total: usize,
-    codes: &[u8],
-    answers: &[u32],
-    rows: &[u32],
-    cells: &[u32],
-) -> io::Result<u32> {
-    let same = texts(rt, run, codes, answers, rows, cells, total)?;
-    let a = past(
-        rt,
-        rows,
-        (run.rows as usize) * 24,
-        b"\nrows past the used ones changed\n",
-    )?;
-    let b = past(
-        rt,
-        cells,
-        (run.cells as usize) * 8,
-        b"\ncells past the used ones changed\n",
-    )?;
-    let c = past(
-        rt,
-        answers,
-        (run.calls as usize) * 4,
-        b"\nanswers past the used ones changed\n",
-    )?;
-    if same & a & b & c & fair(run) {
-        Ok(run.calls)
-    } else {
-        Ok(WRONG)
-    }
-}
-
-// Plays a run and compares what it left.
-fn hold(
-    rt: &(impl Input + Print),
-    bytes: &[u8],
-    total: usize,
-    rows: &mut [u32],
-    cells: &mut [u32],
-    answers: &mut [u32],
-    codes: &mut [u8],
-) -> io::Result<u32> {
-    let ran = run::entry::run(bytes, rows, cells, answers);
-    call_codes(bytes, codes);
-    judge(rt, ran, total, codes, answers, rows, cells)
-}
-
-// Lends as much of each slice as the head says.
-fn lend(
-    rt: &(impl Input + Print),
-    head: &[u8; 52],
-    bytes: &[u8],
-    rows: &mut [u32],
-    cells: &mut [u32],
-    answers: &mut [u32],
-    codes: &mut [u8],
-) -> io::Result<u32> {
-    let r = word(head, 28);
-    let c = word(head, 32);
-    let a = word(head, 36);
-    let n = word(head, 40);
-    let total = word(head, 48);
-    if rows.len() < r {
-        return Ok(WRONG);
-    }
-    if cells.len() < c {
-        return Ok(WRONG);
-    }
-    if answers.len() < a {
-        return Ok(WRONG);
-    }
-    if bytes.len() < n {
-        return Ok(WRONG);
-    }
-    hold(
-        rt,
-        &bytes[..n],
-        total,
-        &mut rows[..r],
-        &mut cells[..c],
-        &mut answers[..a],
-        codes,
-    )
-}
-
-// The arrays as slices, filled anew.
-fn turn(
-    rt: &(impl Input + Print),
-    head: &[u8; 52],
-    bytes: &[u8; 65600],
-    rows: &mut [u32; 49152],
-    cells: &mut [u32; 32768],
-    answers: &mut [u32; 16384],
-    codes: &mut [u8; 4096],
-) -> io::Result<u32> {
-    fill(rows);
-    fill(cells);
-    fill(answers);
-    lend(rt, head, bytes, rows, cells, answers, codes)
-}
-
-// The stored bytes of a run, and zeros after them.
-fn bytes_of(rt: &impl Input, bytes: &mut [u8; 65600], stored: usize) -> io::Result<()> {
-    clear(bytes);
-    take(rt, bytes, stored)
-}
-
-// A head; whether there is one more.
-fn head_of(rt: &impl Input, head: &mut [u8; 52]) -> io::Result<bool> {
-    Ok(stdio::read_full(rt, head)? == 52)
-}
-
-fn start(rt: &impl Print, s: &[u8], n: usize) -> io::Result<()> {
-    if n <= s.len() {
-        say(rt, &s[..n])?;
-    }
-    Ok(())
-}
-
-fn name(rt: &impl Print, head: &[u8; 52]) -> io::Result<()> {
-    start(rt, head, 28)
-}
-
-// One more run, with so many calls or wrong.
-fn counted(rt: &impl Print, t: Tally, calls: u32) -> io::Result<Tally> {
-    let runs = std::num::wrapping_add_u32(t.runs, 1);
-    if calls == WRONG {
-        say(rt, b"DIFFERS\n")?;
-        let wrong = std::num::wrapping_add_u32(t.wrong, 1);
-        return Ok(Tally {
-            runs,
-            calls: t.calls,
-            wrong,
-        });
-    }
-    say(rt, b"as stored\n")?;
-    let sum = std::num::wrapping_add_u32(t.calls, calls);
-    Ok(Tally {
-        runs,
-        calls: sum,
-        wrong: t.wrong,
-    })
-}
-
-fn total(rt: &impl Print, t: Tally) -> io::Result<()> {
-    count(rt, t.runs as usize)?;
-    say(rt, b" runs, ")?;
-    count(rt, t.calls as usize)?;
-    say(rt, b" calls: ")?;
-    if t.wrong == 0 {
-        return say(rt, b"all as stored\n");
-    }
-    count(rt, t.wrong as usize)?;
-    say(rt, b" runs differ\n")
 }
 
 fn main(rt: HostRuntime) -> io::Result<()> {
-    let mut head = [0u8; 52];
-    let mut bytes = [0u8; 65600];
-    let mut rows = [0u32; 49152];
-    let mut cells = [0u32; 32768];
-    let mut answers = [0u32; 16384];
-    let mut codes = [0u8; 4096];
-    let mut t = Tally {
-        runs: 0,
-        calls: 0,
-        wrong: 0,
-    };
-    let mut i: u32 = 0;
-    while i < 100000 {
-        if head_of(&rt, &mut head)? {
-            name(&rt, &head)?;
-            bytes_of(&rt, &mut bytes, word(&head, 44))?;
-            let calls = turn(
-                &rt,
-                &head,
-                &bytes,
-                &mut rows,
-                &mut cells,
-                &mut answers,
-                &mut codes,
-            )?;
-            t = counted(&rt, t, calls)?;
-            i += 1;
-        } else {
+    let mut tally = Tally::default();
+    for _ in 0..100000 {
+        let Some(head) = Head::read(&rt)? else {
             break;
-        }
+        };
+        rt.write_all(&head.name)?;
+        let calls = replay(&rt, &head)?;
+        println!(rt;
+            "{}",
+            if calls.is_some() {
+                "as stored"
+            } else {
+                "DIFFERS"
+            }
+        )?;
+        tally.count(calls);
     }
-    total(&rt, t)
+    println!(rt; "{tally}")
 }

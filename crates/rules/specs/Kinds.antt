@@ -1,33 +1,17 @@
 -- Judgments and nodes by number: a judgment's name and the sorts of its arguments, a node's name and its parts. Assumes nothing.
-use Rattle.std.specs.Prelude.{ℕ, List, [], ◌∷◌, ◌++◌, get_or, replicate}
+use Rattle.std.specs.Prelude.{ℕ, List, [], ◌∷◌, ◌++◌, Option, get_or, slice_get, replicate}
 use Prim.Native.String.{String}
-
--- The sorts of arguments and parts: a number stands as itself, the others as a cell.
--- written by tools/written.py: sorts
-abbrev pub absent : ℕ
-absent = 0
-
-abbrev pub number : ℕ
-number = 1
-
-abbrev pub term : ℕ
-term = 2
-
-abbrev pub interval : ℕ
-interval = 3
-
-abbrev pub context : ℕ
-context = 4
-
--- end of sorts
+use Rattle.rules.specs.declared.Sort.{Sort}
+use Rattle.rules.specs.declared.Sort.TheVariants.{Number as number, Term as term, Interval as interval, Context as context}
+use Rattle.rules.specs.declared.Part.{Part}
 
 -- A judgment: its name and its arguments' sorts.
 pub record Form : Type 0 where
   pub name : String
-  pub sorts : List ℕ
+  pub sorts : List Sort
 
 infix 30 ◌takes◌
-abbrev ◌takes◌ : String → List ℕ → Form
+abbrev ◌takes◌ : String → List Sort → Form
 ◌takes◌ s l = record { name = s; sorts = l }
 
 -- The judgments by their kind.
@@ -52,20 +36,19 @@ judgments =
     -- end of judgments
     []
 
--- The sort of a judgment's argument, counted from 0.
-unfoldable pub sorts_of : ℕ → List ℕ
-sorts_of k = (get_or judgments k (record { name = ""; sorts = [] })).sorts
+abbrev pub no_judgment : Form
+no_judgment = "" takes []
 
-unfoldable pub sort_of : ℕ → ℕ → ℕ
-sort_of k n = get_or (sorts_of k) n absent
+-- The sorts of a judgment's arguments, and that of one, counted from 0.
+unfoldable pub sorts_of : ℕ → List Sort
+sorts_of k = (get_or judgments k no_judgment).sorts
+
+unfoldable pub sort_of : ℕ → ℕ → Option Sort
+sort_of k n = slice_get (sorts_of k) n
 
 -- A part of a node that a quote shows: its sort, and the word of the cell where it stands.
-pub record Part : Type 0 where
-  pub sort : ℕ
-  pub word : ℕ
-
 infix 60 ◌in_word◌
-abbrev ◌in_word◌ : ℕ → ℕ → Part
+abbrev ◌in_word◌ : Sort → ℕ → Part
 ◌in_word◌ s w = record { sort = s; word = w }
 
 pub record Node : Type 0 where
@@ -112,12 +95,12 @@ nodes =
     -- end of nodes
     []
 
--- The part of a node that is shown at a place, counted from 0; absent, in word 0, past the last.
+-- The parts of a node that are shown, and the one at a place, counted from 0.
 unfoldable pub parts_of : ℕ → List Part
 parts_of k = (get_or nodes k no_node).parts
 
-unfoldable pub part_of : ℕ → ℕ → Part
-part_of k n = get_or (parts_of k) n (absent in_word 0)
+unfoldable pub part_of : ℕ → ℕ → Option Part
+part_of k n = slice_get (parts_of k) n
 
 -- How many judgments and nodes there are, kinds that are no node among them.
 -- written by tools/written.py: counts

@@ -4,7 +4,7 @@ use Rattle.std.specs.Prelude.{ℕ, List, [] as []ᴸ, ◌∷◌ as ◌∷ᴸ◌,
 use Prim.Native.Char.{code}
 use Prim.Native.String.{String, [], ◌∷◌}
 use Rattle.walk.specs.Rule.{rules, no_rule}
-use Rattle.rules.specs.Kinds.{judgments, nodes}
+use Rattle.rules.specs.Kinds.{judgments, no_judgment, nodes, no_node}
 use Rattle.rules.specs.declared.Name.{Name}
 use Rattle.rules.specs.declared.Name.TheVariants.{Rule, Judgment, Node as OfNode}
 
@@ -18,10 +18,10 @@ unfoldable pub rule_name : ℕ → List ℕ
 rule_name n = bytes (get_or rules n no_rule).name
 
 unfoldable pub judgment_name : ℕ → List ℕ
-judgment_name k = bytes (get_or judgments k (record { name = ""; sorts = []ᴸ })).name
+judgment_name k = bytes (get_or judgments k no_judgment).name
 
 unfoldable pub node_name : ℕ → List ℕ
-node_name k = bytes (get_or nodes k (record { name = ""; parts = []ᴸ })).name
+node_name k = bytes (get_or nodes k no_node).name
 
 abbrev pub name_of : Name → List ℕ
 name_of (Rule n) = rule_name n

@@ -1,14 +1,16 @@
 -- The table of judgments has the sorts of each judgment's arguments. Assumes nothing.
-use Rattle.std.specs.Prelude.{ℕ, ◌≡◌, refl, map}
+use Rattle.std.specs.Prelude.{◌≡◌, refl, map}
 use Rattle.walk.specs.Judgment.{Judgment, kind, Argument, number, of_interval, of_quote, of_context, arguments, ctx, dshiftctx, lookup, lt, le, max, interval, ishift, isubst, shift, subst, dshift, dsubst, has, eq}
+use Rattle.rules.specs.declared.Sort.{Sort}
+use Rattle.rules.specs.declared.Sort.TheVariants.{Number, Term, Interval, Context}
 use Rattle.rules.specs.Kinds as K
 
 -- The sort of an argument, as the table of judgments has it.
-abbrev pub sort : Argument → ℕ
-sort (number n) = K.number
-sort (of_quote t) = K.term
-sort (of_interval r) = K.interval
-sort (of_context g) = K.context
+abbrev pub sort : Argument → Sort
+sort (number n) = Number
+sort (of_quote t) = Term
+sort (of_interval r) = Interval
+sort (of_context g) = Context
 
 pub sorted : (j : Judgment) → map sort (arguments j) ≡ K.sorts_of (kind j)
 unfolding K.sorts_of

@@ -1,143 +1,130 @@
 // The tables of names, kinds and sorts. The functions of lib.rt read them, and their proofs compare each with its rule.
 // Written by tools/written.py from tools/language.py; `python3 tools/written.py` makes it again.
+use crate::Sort::{Context, Interval, Number, Term};
+use crate::{Part, Sort};
 
-// How many rules, judgments and nodes there are.
-pub const RULES: u32 = 117;
-
-pub const JUDGMENTS: u32 = 15;
-
-pub const NODES: u32 = 34;
-
-// Names take 16 bytes each, filled up with _.
-pub const RULE_NAMES: [u8; 1872] = *b"\
-    ctx.nil_________\
-    ctx.cons________\
-    dshiftctx.nil___\
-    dshiftctx.cons__\
-    lookup.z________\
-    lookup.s________\
-    lt.z____________\
-    lt.s____________\
-    le.z____________\
-    le.s____________\
-    max.z___________\
-    max.sz__________\
-    max.ss__________\
-    interval.0______\
-    interval.1______\
-    interval.dim____\
-    interval.neg____\
-    interval.meet___\
-    interval.join___\
-    ishift.0________\
-    ishift.1________\
-    ishift.dim.lt___\
-    ishift.dim.ge___\
-    ishift.neg______\
-    ishift.meet_____\
-    ishift.join_____\
-    isubst.0________\
-    isubst.1________\
-    isubst.dim.hit__\
-    isubst.dim.lt___\
-    isubst.dim.gt___\
-    isubst.neg______\
-    isubst.meet_____\
-    isubst.join_____\
-    shift.u_________\
-    shift.nat_______\
-    shift.zero______\
-    shift.v.lt______\
-    shift.v.ge______\
-    shift.pi________\
-    shift.lam_______\
-    shift.app_______\
-    shift.path______\
-    shift.plam______\
-    shift.papp______\
-    subst.u_________\
-    subst.nat_______\
-    subst.zero______\
-    subst.v.hit_____\
-    subst.v.lt______\
-    subst.v.gt______\
-    subst.pi________\
-    subst.lam_______\
-    subst.app_______\
-    subst.path______\
-    subst.plam______\
-    subst.papp______\
-    dshift.u________\
-    dshift.nat______\
-    dshift.zero_____\
-    dshift.v________\
-    dshift.pi_______\
-    dshift.lam______\
-    dshift.app______\
-    dshift.path_____\
-    dshift.plam_____\
-    dshift.papp_____\
-    dsubst.u________\
-    dsubst.nat______\
-    dsubst.zero_____\
-    dsubst.v________\
-    dsubst.pi_______\
-    dsubst.lam______\
-    dsubst.app______\
-    dsubst.path_____\
-    dsubst.plam_____\
-    dsubst.papp_____\
-    type.u__________\
-    type.nat________\
-    type.zero_______\
-    type.v__________\
-    type.pi_________\
-    type.lam________\
-    type.app________\
-    type.path_______\
-    type.plam_______\
-    type.papp_______\
-    type.conv_______\
-    eq.refl_________\
-    eq.sym__________\
-    eq.trans________\
-    eq.beta_________\
-    eq.pbeta________\
-    eq.p0___________\
-    eq.p1___________\
-    type.sigma______\
-    type.pair_______\
-    type.fst________\
-    type.snd________\
-    eq.fst-beta_____\
-    eq.snd-beta_____\
-    shift.sigma_____\
-    shift.pair______\
-    shift.fst_______\
-    shift.snd_______\
-    subst.sigma_____\
-    subst.pair______\
-    subst.fst_______\
-    subst.snd_______\
-    dshift.sigma____\
-    dshift.pair_____\
-    dshift.fst______\
-    dshift.snd______\
-    dsubst.sigma____\
-    dsubst.pair_____\
-    dsubst.fst______\
-    dsubst.snd______";
-
-pub const RULE_LENGTHS: [usize; 117] = [
-    7, 8, 13, 14, 8, 8, 4, 4, 4, 4, 5, 6, 6, 10, 10, 12, 12, 13, 13, 8, 8, 13, 13, 10, 11, 11, 8,
-    8, 14, 13, 13, 10, 11, 11, 7, 9, 10, 10, 10, 8, 9, 9, 10, 10, 10, 7, 9, 10, 11, 10, 10, 8, 9,
-    9, 10, 10, 10, 8, 10, 11, 8, 9, 10, 10, 11, 11, 11, 8, 10, 11, 8, 9, 10, 10, 11, 11, 11, 6, 8,
-    9, 6, 7, 8, 8, 9, 9, 9, 9, 7, 6, 8, 7, 8, 5, 5, 10, 9, 8, 8, 11, 11, 11, 10, 9, 9, 11, 10, 9,
-    9, 12, 11, 10, 10, 12, 11, 10, 10,
+pub static RULE_NAMES: [&[u8]; 117] = [
+    b"ctx.nil",
+    b"ctx.cons",
+    b"dshiftctx.nil",
+    b"dshiftctx.cons",
+    b"lookup.z",
+    b"lookup.s",
+    b"lt.z",
+    b"lt.s",
+    b"le.z",
+    b"le.s",
+    b"max.z",
+    b"max.sz",
+    b"max.ss",
+    b"interval.0",
+    b"interval.1",
+    b"interval.dim",
+    b"interval.neg",
+    b"interval.meet",
+    b"interval.join",
+    b"ishift.0",
+    b"ishift.1",
+    b"ishift.dim.lt",
+    b"ishift.dim.ge",
+    b"ishift.neg",
+    b"ishift.meet",
+    b"ishift.join",
+    b"isubst.0",
+    b"isubst.1",
+    b"isubst.dim.hit",
+    b"isubst.dim.lt",
+    b"isubst.dim.gt",
+    b"isubst.neg",
+    b"isubst.meet",
+    b"isubst.join",
+    b"shift.u",
+    b"shift.nat",
+    b"shift.zero",
+    b"shift.v.lt",
+    b"shift.v.ge",
+    b"shift.pi",
+    b"shift.lam",
+    b"shift.app",
+    b"shift.path",
+    b"shift.plam",
+    b"shift.papp",
+    b"subst.u",
+    b"subst.nat",
+    b"subst.zero",
+    b"subst.v.hit",
+    b"subst.v.lt",
+    b"subst.v.gt",
+    b"subst.pi",
+    b"subst.lam",
+    b"subst.app",
+    b"subst.path",
+    b"subst.plam",
+    b"subst.papp",
+    b"dshift.u",
+    b"dshift.nat",
+    b"dshift.zero",
+    b"dshift.v",
+    b"dshift.pi",
+    b"dshift.lam",
+    b"dshift.app",
+    b"dshift.path",
+    b"dshift.plam",
+    b"dshift.papp",
+    b"dsubst.u",
+    b"dsubst.nat",
+    b"dsubst.zero",
+    b"dsubst.v",
+    b"dsubst.pi",
+    b"dsubst.lam",
+    b"dsubst.app",
+    b"dsubst.path",
+    b"dsubst.plam",
+    b"dsubst.papp",
+    b"type.u",
+    b"type.nat",
+    b"type.zero",
+    b"type.v",
+    b"type.pi",
+    b"type.lam",
+    b"type.app",
+    b"type.path",
+    b"type.plam",
+    b"type.papp",
+    b"type.conv",
+    b"eq.refl",
+    b"eq.sym",
+    b"eq.trans",
+    b"eq.beta",
+    b"eq.pbeta",
+    b"eq.p0",
+    b"eq.p1",
+    b"type.sigma",
+    b"type.pair",
+    b"type.fst",
+    b"type.snd",
+    b"eq.fst-beta",
+    b"eq.snd-beta",
+    b"shift.sigma",
+    b"shift.pair",
+    b"shift.fst",
+    b"shift.snd",
+    b"subst.sigma",
+    b"subst.pair",
+    b"subst.fst",
+    b"subst.snd",
+    b"dshift.sigma",
+    b"dshift.pair",
+    b"dshift.fst",
+    b"dshift.snd",
+    b"dsubst.sigma",
+    b"dsubst.pair",
+    b"dsubst.fst",
+    b"dsubst.snd",
 ];
 
 // The kind of judgment that each rule concludes.
-pub const RULE_KINDS: [u32; 117] = [
+pub static RULE_KINDS: [u32; 117] = [
     0, 0, 1, 1, 2, 2, 3, 3, 4, 4, 5, 5, 5, 6, 6, 6, 6, 6, 6, 7, 7, 7, 7, 7, 7, 7, 8, 8, 8, 8, 8, 8,
     8, 8, 9, 9, 9, 9, 9, 9, 9, 9, 9, 9, 9, 10, 10, 10, 10, 10, 10, 10, 10, 10, 10, 10, 10, 11, 11,
     11, 11, 11, 11, 11, 11, 11, 11, 12, 12, 12, 12, 12, 12, 12, 12, 12, 12, 13, 13, 13, 13, 13, 13,
@@ -145,87 +132,119 @@ pub const RULE_KINDS: [u32; 117] = [
     10, 11, 11, 11, 11, 12, 12, 12, 12,
 ];
 
-pub const JUDGMENT_NAMES: [u8; 240] = *b"\
-    ctx_____________\
-    dshiftctx_______\
-    lookup__________\
-    lt______________\
-    le______________\
-    max_____________\
-    interval________\
-    ishift__________\
-    isubst__________\
-    shift___________\
-    subst___________\
-    dshift__________\
-    dsubst__________\
-    has_____________\
-    eq______________";
-
-pub const JUDGMENT_LENGTHS: [usize; 15] = [3, 9, 6, 2, 2, 3, 8, 6, 6, 5, 5, 6, 6, 3, 2];
-
-// How many arguments each kind takes.
-pub const JUDGMENT_COUNTS: [u32; 15] = [2, 3, 3, 2, 2, 3, 2, 3, 4, 3, 4, 3, 4, 4, 5];
-
-// Five a kind: 0 none, 1 a number, 2 a term, 3 an interval, 4 a context.
-pub const JUDGMENT_SORTS: [u32; 75] = [
-    1, 4, 0, 0, 0, 4, 1, 4, 0, 0, 4, 1, 2, 0, 0, 1, 1, 0, 0, 0, 1, 1, 0, 0, 0, 1, 1, 1, 0, 0, 1, 3,
-    0, 0, 0, 3, 1, 3, 0, 0, 3, 1, 3, 3, 0, 2, 1, 2, 0, 0, 2, 1, 2, 2, 0, 2, 1, 2, 0, 0, 2, 1, 3, 2,
-    0, 1, 4, 2, 2, 0, 1, 4, 2, 2, 2,
+pub static JUDGMENT_NAMES: [&[u8]; 15] = [
+    b"ctx",
+    b"dshiftctx",
+    b"lookup",
+    b"lt",
+    b"le",
+    b"max",
+    b"interval",
+    b"ishift",
+    b"isubst",
+    b"shift",
+    b"subst",
+    b"dshift",
+    b"dsubst",
+    b"has",
+    b"eq",
 ];
 
-pub const NODE_NAMES: [u8; 544] = *b"\
-    ________________\
-    u_______________\
-    v_______________\
-    nat_____________\
-    zero____________\
-    pi______________\
-    lam_____________\
-    app_____________\
-    path____________\
-    plam____________\
-    papp____________\
-    sigma___________\
-    pair____________\
-    fst_____________\
-    snd_____________\
-    ________________\
-    i0______________\
-    i1______________\
-    dim_____________\
-    neg_____________\
-    meet____________\
-    join____________\
-    ________________\
-    ________________\
-    ________________\
-    ________________\
-    ________________\
-    ________________\
-    ________________\
-    ________________\
-    ________________\
-    ________________\
-    nil_____________\
-    cons____________";
-
-pub const NODE_LENGTHS: [usize; 34] = [
-    0, 1, 1, 3, 4, 2, 3, 3, 4, 4, 4, 5, 4, 3, 3, 0, 2, 2, 3, 3, 4, 4, 0, 0, 0, 0, 0, 0, 0, 0, 0, 0,
-    3, 4,
+// The sorts of the arguments of each kind.
+pub static JUDGMENT_SORTS: [&[Sort]; 15] = [
+    &[Number, Context],
+    &[Context, Number, Context],
+    &[Context, Number, Term],
+    &[Number, Number],
+    &[Number, Number],
+    &[Number, Number, Number],
+    &[Number, Interval],
+    &[Interval, Number, Interval],
+    &[Interval, Number, Interval, Interval],
+    &[Term, Number, Term],
+    &[Term, Number, Term, Term],
+    &[Term, Number, Term],
+    &[Term, Number, Interval, Term],
+    &[Number, Context, Term, Term],
+    &[Number, Context, Term, Term, Term],
 ];
 
-// Three a kind: the sorts of the parts that a quote shows, and the words of the cell that hold them.
-pub const PART_SORTS: [u32; 102] = [
-    0, 0, 0, 1, 0, 0, 1, 0, 0, 0, 0, 0, 0, 0, 0, 2, 2, 0, 2, 0, 0, 2, 2, 0, 2, 2, 2, 2, 0, 0, 2, 3,
-    0, 2, 2, 0, 2, 2, 0, 2, 0, 0, 2, 0, 0, 0, 0, 0, 0, 0, 0, 0, 0, 0, 1, 0, 0, 3, 0, 0, 3, 3, 0, 3,
-    3, 0, 0, 0, 0, 0, 0, 0, 0, 0, 0, 0, 0, 0, 0, 0, 0, 0, 0, 0, 0, 0, 0, 0, 0, 0, 0, 0, 0, 0, 0, 0,
-    0, 0, 0, 2, 4, 0,
+pub static NODE_NAMES: [&[u8]; 34] = [
+    b"", b"u", b"v", b"nat", b"zero", b"pi", b"lam", b"app", b"path", b"plam", b"papp", b"sigma",
+    b"pair", b"fst", b"snd", b"", b"i0", b"i1", b"dim", b"neg", b"meet", b"join", b"", b"", b"",
+    b"", b"", b"", b"", b"", b"", b"", b"nil", b"cons",
 ];
 
-pub const PART_WORDS: [u32; 102] = [
-    0, 0, 0, 1, 0, 0, 1, 0, 0, 0, 0, 0, 0, 0, 0, 1, 2, 0, 2, 0, 0, 1, 2, 0, 1, 2, 3, 2, 0, 0, 1, 2,
-    0, 1, 2, 0, 2, 3, 0, 1, 0, 0, 1, 0, 0, 0, 0, 0, 0, 0, 0, 0, 0, 0, 1, 0, 0, 1, 0, 0, 1, 2, 0, 1,
-    2, 0, 0, 0, 0, 0, 0, 0, 0, 0, 0, 0, 0, 0, 0, 0, 0, 0, 0, 0, 0, 0, 0, 0, 0, 0, 0, 0, 0, 0, 0, 0,
-    0, 0, 0, 1, 2, 0,
+// Parts by their sort and the word of the cell that holds them.
+const NUMBER_1: Part = Part {
+    sort: Number,
+    word: 1,
+};
+
+const TERM_1: Part = Part {
+    sort: Term,
+    word: 1,
+};
+
+const TERM_2: Part = Part {
+    sort: Term,
+    word: 2,
+};
+
+const TERM_3: Part = Part {
+    sort: Term,
+    word: 3,
+};
+
+const INTERVAL_1: Part = Part {
+    sort: Interval,
+    word: 1,
+};
+
+const INTERVAL_2: Part = Part {
+    sort: Interval,
+    word: 2,
+};
+
+const CONTEXT_2: Part = Part {
+    sort: Context,
+    word: 2,
+};
+
+// The parts that the quote of each kind shows.
+pub static NODE_PARTS: [&[Part]; 34] = [
+    &[],
+    &[NUMBER_1],
+    &[NUMBER_1],
+    &[],
+    &[],
+    &[TERM_1, TERM_2],
+    &[TERM_2],
+    &[TERM_1, TERM_2],
+    &[TERM_1, TERM_2, TERM_3],
+    &[TERM_2],
+    &[TERM_1, INTERVAL_2],
+    &[TERM_1, TERM_2],
+    &[TERM_2, TERM_3],
+    &[TERM_1],
+    &[TERM_1],
+    &[],
+    &[],
+    &[],
+    &[NUMBER_1],
+    &[INTERVAL_1],
+    &[INTERVAL_1, INTERVAL_2],
+    &[INTERVAL_1, INTERVAL_2],
+    &[],
+    &[],
+    &[],
+    &[],
+    &[],
+    &[],
+    &[],
+    &[],
+    &[],
+    &[],
+    &[],
+    &[TERM_1, CONTEXT_2],
 ];

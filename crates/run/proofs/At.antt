@@ -7,9 +7,11 @@ use lib.Seq.{sets}
 use native.Mathlib.Numerals.{sub-one}
 use Rattle.walk.specs.Refusal as Refusal
 use Rattle.ast.specs.Words.{up}
-use Rattle.producer.specs.Machine.{Machine, give, stop, end_2}
-use Rattle.producer.specs.declared.answers.Two.{Two}
-use Rattle.producer.specs.declared.answers.Two.TheVariants.{Pair, Refused}
+use Rattle.std.specs.Prelude.{Ok, Err}
+use Rattle.producer.specs.declared.Tables.{Tables}
+use Rattle.producer.specs.Answers.{Answer, end}
+use Rattle.producer.specs.Machine.{Machine, give, stop}
+pub use Rattle.producer.proofs.At.{residual}
 use Rattle.run.specs.Run.{Told, told, turn_end, answered_of, turned, played}
 use Rattle.run.specs.Build.{built_body, built, scoped, scoped_body}
 
@@ -32,10 +34,10 @@ scoped_in zero bytes at g w h = absurd (h refl)
 scoped_in (suc k) bytes at g w h = rw sub-one
 
 -- the answer of a call, over what it leaves
-pub told_end : (q : Two) (next : ℕ) (R C : List ℕ) → told (end_2 q R C) next ≡ turn_end (answered_of q next) R C
-unfolding told end_2 answered_of
-told_end (Pair s x y) next R C = refl
-told_end (Refused s e) next R C = refl
+pub told_end : (answer : Answer (ℕ × ℕ)) (next : ℕ) (t : Tables) → told (end answer t) next ≡ turn_end (answered_of answer next) t.rows.now t.cells.now
+unfolding told end answered_of
+told_end (Ok (s, (x, y))) next t = refl
+told_end (Err e) next t = refl
 
 -- one call played, and none
 pub played_turn : (left room : ℕ) (bytes : List ℕ) (at done : ℕ) (w : Machine) (A : List ℕ) (t : Told) (now : ℕ) → now ≡ room → t ≡ turned now bytes at w → 0 < left → played left room bytes at done w A ≡ played (left - 1) room bytes t.next (up done) t.left (sets A (done * 4) (t.number ∷ t.row ∷ t.result ∷ t.deepest ∷ []))

@@ -1,16 +1,17 @@
 -- The run over words: its own answer, and the words of the three slices after it.
-use Rattle.std.specs.Prelude.{ℕ, zero, suc, ◌+◌, ◌*◌, ◌/◌, ◌%◌, List, [], ◌∷◌, ltb, length}
+use Rattle.std.specs.Prelude.{ℕ, zero, suc, ◌+◌, ◌*◌, ◌/◌, ◌%◌, List, [], ◌∷◌, ltb, length, Result as Outcome, Ok, Err}
 use Rattle.std.proofs.lemmas.List.Edits.{sets}
 use Rattle.walk.specs.Refusal as Refusal
 use Rattle.ast.specs.Words.{ifb, up}
 use Rattle.producer.specs.declared.State.{State}
-use Rattle.producer.specs.declared.answers.Two.{Two}
-use Rattle.producer.specs.declared.answers.Two.TheVariants.{Pair, Refused as Failed}
+use Rattle.producer.specs.Answers.{Answer}
 use Rattle.producer.specs.Machine.{Machine, machine, new_state, fresh, Result, is, not}
-use Rattle.syntax.specs.declared.limits.Size.{Size}
-use Rattle.syntax.specs.declared.limits.Size.TheVariants.{Fits, Refused, Bad, Short}
+use Rattle.syntax.specs.declared.limits.Fitting.{Fitting}
+use Rattle.syntax.specs.declared.limits.Unfit.{Unfit}
+use Rattle.syntax.specs.declared.limits.Unfit.TheVariants.{Refused, Unread}
+use Rattle.syntax.specs.declared.scan.Unread.TheVariants.{Bad, Short}
 use Rattle.syntax.specs.declared.scan.Scanned.{Scanned}
-use Rattle.syntax.specs.declared.scan.Scanned.TheVariants.{Calls, Refused as Unread}
+use Rattle.syntax.specs.declared.scan.Refusal.{Refusal as RefusedRun}
 use Rattle.syntax.specs.Told.{call_at, size_in, scanned}
 use Rattle.ran.specs.declared.Ran.{Ran}
 use Rattle.run.specs.declared.entry.Turn.{Turn}
@@ -42,20 +43,20 @@ turn_end t R C = record { number = t.number; row = t.row; result = t.result; dee
 unfoldable pub refused_of : State → (number next : ℕ) → Turn
 refused_of s number next = record { state = s; number = number; row = 4294967295; result = 0; deepest = 0; next = next }
 
-unfoldable pub answered_of : Two → ℕ → Turn
-answered_of (Pair s row result) next = record { state = s; number = 0; row = row; result = result; deepest = s.deepest; next = next }
-answered_of (Failed s e) next = record { state = s; number = e; row = 4294967295; result = 0; deepest = s.deepest; next = next }
+unfoldable pub answered_of : Answer (ℕ × ℕ) → ℕ → Turn
+answered_of (Ok (s, (row, result))) next = record { state = s; number = 0; row = row; result = result; deepest = s.deepest; next = next }
+answered_of (Err e) next = record { state = e.state; number = e.number; row = 4294967295; result = 0; deepest = e.state.deepest; next = next }
 
 unfoldable pub told : Result (ℕ × ℕ) → ℕ → Told
 told (is a w) next = record { number = 0; row = a.0; result = a.1; deepest = w.state.deepest; next = next; left = w }
 told (not e w) next = record { number = e; row = 4294967295; result = 0; deepest = w.state.deepest; next = next; left = w }
 
 -- a call of a size: in a run that was read, none is bad or short
-unfoldable pub turned_by : Size → List ℕ → ℕ → Machine → Told
-turned_by (Fits head n next) bytes at w = told (called bytes (low_of at) head (machine w.rows w.cells (fresh w.state))) next
-turned_by (Refused number next) bytes at w = turn_end (refused_of w.state number next) w.rows w.cells
-turned_by (Bad place) bytes at w = turn_end (refused_of w.state Refusal.unread place) w.rows w.cells
-turned_by Short bytes at w = turn_end (refused_of w.state Refusal.unread at) w.rows w.cells
+unfoldable pub turned_by : Outcome Fitting Unfit → List ℕ → ℕ → Machine → Told
+turned_by (Ok fitting) bytes at w = told (called bytes (low_of at) fitting.head (machine w.rows w.cells (fresh w.state))) fitting.next
+turned_by (Err (Refused number next)) bytes at w = turn_end (refused_of w.state number next) w.rows w.cells
+turned_by (Err (Unread (Bad place))) bytes at w = turn_end (refused_of w.state Refusal.unread place) w.rows w.cells
+turned_by (Err (Unread Short)) bytes at w = turn_end (refused_of w.state Refusal.unread at) w.rows w.cells
 
 -- the call at an offset, read over a stack of so many bytes
 unfoldable pub turned : ℕ → List ℕ → ℕ → Machine → Told
@@ -92,11 +93,11 @@ unfoldable pub read_run : ℕ → Played → Ended
 read_run calls p = end_run (record { number = 0; place = 0; calls = calls; rows = p.left.state.rows; cells = p.left.state.cells }) p.left.rows p.left.cells p.answers
 
 -- the stack of the reader has 131,073 bytes
-unfoldable pub run_by : Scanned → List ℕ → List ℕ → List ℕ → List ℕ → Ended
-run_by (Unread number place) bytes R C A = end_run (refused_run number place) R C A
-run_by (Calls limit calls) bytes R C A =
-    ifb (ltb (length A / 4) calls) (end_run (refused_run Refusal.answers 0) R C A)
-    (read_run (low_of calls) (played (low_of calls) 131073 bytes 2 0 (machine R C (started limit (length R) (length C))) A))
+unfoldable pub run_by : Outcome Scanned RefusedRun → List ℕ → List ℕ → List ℕ → List ℕ → Ended
+run_by (Err refused) bytes R C A = end_run (refused_run refused.number refused.place) R C A
+run_by (Ok scanned) bytes R C A =
+    ifb (ltb (length A / 4) scanned.calls) (end_run (refused_run Refusal.answers 0) R C A)
+    (read_run (low_of scanned.calls) (played (low_of scanned.calls) 131073 bytes 2 0 (machine R C (started scanned.limit (length R) (length C))) A))
 
 -- refusals 1 to 4, the lowest first; else the calls are played
 unfoldable pub run_of : List ℕ → List ℕ → List ℕ → List ℕ → Ended

@@ -2,13 +2,13 @@
 // The limits have been tested by then, so that a term nests at most 33 deep; one that nests deeper, and a byte that is no kind,
 // are refused as unread, which is never met in a run that was read.
 ghost use Rattle.std.specs.Prelude.{◌≡◌};
-ghost use Rattle.producer.specs.Machine.{machine, end_2};
+ghost use Rattle.producer.specs.Answers.{end};
+ghost use Rattle.producer.specs.Machine.{over};
 ghost use Rattle.run.specs.Build.{byte_at, parts_of, built, built_one, built_two, built_three, scoped};
 
-use ast::words::succ;
 use ast::{kinds, refusals};
-use producer::State;
-use producer::answers::{Got, Two};
+use producer::answers::Answer;
+use producer::{State, Tables};
 
 // The deepest that a term nests, counted from 1.
 pub const DEPTH: u32 = 33;
@@ -61,43 +61,35 @@ pub fn parts(kind: u32) -> u32
 
 // The cell of the term or interval at `at`, and the offset past it; `left` levels of depth are allowed.
 #[cycle(build)]
-pub fn build(state: State, left: u32, bytes: &[u8], at: u32, rows: &[u32], cells: &mut [u32]) -> Two
-    ensures { end_2 result rows.now cells.new ≡ built left bytes.now at (machine rows.now cells.old state) }
+pub fn build(
+    state: State,
+    left: u32,
+    bytes: &[u8],
+    at: u32,
+    tables: &mut Tables,
+) -> Answer<(u32, u32)>
+    ensures { end result tables.new ≡ built left bytes.now at (over tables.old state) }
 {
     if left == 0 {
-        return Two::Refused(state, refusals::UNREAD);
+        return Err(state.refused(refusals::UNREAD));
     }
     let down = left - 1;
     let kind = byte(bytes, at);
-    let next = succ(at);
-    let shape = parts(kind);
-    match shape {
+    let next = at.wrapping_add(1);
+    match parts(kind) {
         1 => {
-            return match state.intern(rows, cells, kind, 0, 0, 0) {
-                Got::Is(s, cell) => Two::Pair(s, cell, next),
-                Got::Refused(s, e) => Two::Refused(s, e),
-            };
+            let (s, cell) = state.intern(tables, kind, 0, 0, 0)?;
+            Ok((s, (cell, next)))
         }
         2 => {
-            let number = byte(bytes, next);
-            let past = succ(next);
-            return match state.intern(rows, cells, kind, number, 0, 0) {
-                Got::Is(s, cell) => Two::Pair(s, cell, past),
-                Got::Refused(s, e) => Two::Refused(s, e),
-            };
+            let (s, cell) = state.intern(tables, kind, byte(bytes, next), 0, 0)?;
+            Ok((s, (cell, next.wrapping_add(1))))
         }
-        3 => {
-            return one(state, down, bytes, next, rows, cells, kind);
-        }
-        4 => {
-            return two(state, down, bytes, next, rows, cells, kind);
-        }
-        5 => {
-            return three(state, down, bytes, next, rows, cells, kind);
-        }
-        _ => {}
+        3 => one(state, down, bytes, next, tables, kind),
+        4 => two(state, down, bytes, next, tables, kind),
+        5 => three(state, down, bytes, next, tables, kind),
+        _ => Err(state.refused(refusals::UNREAD)),
     }
-    Two::Refused(state, refusals::UNREAD)
 }
 
 // A cell with one part.
@@ -107,20 +99,14 @@ pub fn one(
     left: u32,
     bytes: &[u8],
     at: u32,
-    rows: &[u32],
-    cells: &mut [u32],
+    tables: &mut Tables,
     kind: u32,
-) -> Two
-    ensures { end_2 result rows.now cells.new ≡ built_one (built left bytes.now) at kind (machine rows.now cells.old state) }
+) -> Answer<(u32, u32)>
+    ensures { end result tables.new ≡ built_one (built left bytes.now) at kind (over tables.old state) }
 {
-    let q1 = build(state, left, bytes, at, rows, cells);
-    let Two::Pair(s1, a, next) = q1 else {
-        return q1;
-    };
-    match s1.intern(rows, cells, kind, a, 0, 0) {
-        Got::Is(s, cell) => Two::Pair(s, cell, next),
-        Got::Refused(s, e) => Two::Refused(s, e),
-    }
+    let (s1, (a, next)) = build(state, left, bytes, at, tables)?;
+    let (s, cell) = s1.intern(tables, kind, a, 0, 0)?;
+    Ok((s, (cell, next)))
 }
 
 // A cell with two parts.
@@ -130,24 +116,15 @@ pub fn two(
     left: u32,
     bytes: &[u8],
     at: u32,
-    rows: &[u32],
-    cells: &mut [u32],
+    tables: &mut Tables,
     kind: u32,
-) -> Two
-    ensures { end_2 result rows.now cells.new ≡ built_two (built left bytes.now) at kind (machine rows.now cells.old state) }
+) -> Answer<(u32, u32)>
+    ensures { end result tables.new ≡ built_two (built left bytes.now) at kind (over tables.old state) }
 {
-    let q1 = build(state, left, bytes, at, rows, cells);
-    let Two::Pair(s1, a, middle) = q1 else {
-        return q1;
-    };
-    let q2 = build(s1, left, bytes, middle, rows, cells);
-    let Two::Pair(s2, b, next) = q2 else {
-        return q2;
-    };
-    match s2.intern(rows, cells, kind, a, b, 0) {
-        Got::Is(s, cell) => Two::Pair(s, cell, next),
-        Got::Refused(s, e) => Two::Refused(s, e),
-    }
+    let (s1, (a, middle)) = build(state, left, bytes, at, tables)?;
+    let (s2, (b, next)) = build(s1, left, bytes, middle, tables)?;
+    let (s, cell) = s2.intern(tables, kind, a, b, 0)?;
+    Ok((s, (cell, next)))
 }
 
 // A cell with three parts.
@@ -157,28 +134,16 @@ pub fn three(
     left: u32,
     bytes: &[u8],
     at: u32,
-    rows: &[u32],
-    cells: &mut [u32],
+    tables: &mut Tables,
     kind: u32,
-) -> Two
-    ensures { end_2 result rows.now cells.new ≡ built_three (built left bytes.now) at kind (machine rows.now cells.old state) }
+) -> Answer<(u32, u32)>
+    ensures { end result tables.new ≡ built_three (built left bytes.now) at kind (over tables.old state) }
 {
-    let q1 = build(state, left, bytes, at, rows, cells);
-    let Two::Pair(s1, a, second) = q1 else {
-        return q1;
-    };
-    let q2 = build(s1, left, bytes, second, rows, cells);
-    let Two::Pair(s2, b, third) = q2 else {
-        return q2;
-    };
-    let q3 = build(s2, left, bytes, third, rows, cells);
-    let Two::Pair(s3, c, next) = q3 else {
-        return q3;
-    };
-    match s3.intern(rows, cells, kind, a, b, c) {
-        Got::Is(s, cell) => Two::Pair(s, cell, next),
-        Got::Refused(s, e) => Two::Refused(s, e),
-    }
+    let (s1, (a, second)) = build(state, left, bytes, at, tables)?;
+    let (s2, (b, third)) = build(s1, left, bytes, second, tables)?;
+    let (s3, (c, next)) = build(s2, left, bytes, third, tables)?;
+    let (s, cell) = s3.intern(tables, kind, a, b, c)?;
+    Ok((s, (cell, next)))
 }
 
 // The context `g` with `left` more types, which start at `at`; and the offset past them.
@@ -187,22 +152,16 @@ pub fn scope(
     left: u32,
     bytes: &[u8],
     at: u32,
-    rows: &[u32],
-    cells: &mut [u32],
+    tables: &mut Tables,
     g: u32,
-) -> Two
-    ensures { end_2 result rows.now cells.new ≡ scoped left bytes.now at g (machine rows.now cells.old state) }
+) -> Answer<(u32, u32)>
+    ensures { end result tables.new ≡ scoped left bytes.now at g (over tables.old state) }
 {
     if left == 0 {
-        return Two::Pair(state, g, at);
+        return Ok((state, (g, at)));
     }
     let down = left - 1;
-    let q1 = build(state, DEPTH, bytes, at, rows, cells);
-    let Two::Pair(s1, a, next) = q1 else {
-        return q1;
-    };
-    match s1.intern(rows, cells, kinds::CONS, a, g, 0) {
-        Got::Is(s2, h) => scope(s2, down, bytes, next, rows, cells, h),
-        Got::Refused(s2, e) => Two::Refused(s2, e),
-    }
+    let (s1, (a, next)) = build(state, DEPTH, bytes, at, tables)?;
+    let (s2, h) = s1.intern(tables, kinds::CONS, a, g, 0)?;
+    scope(s2, down, bytes, next, tables, h)
 }

@@ -1,175 +1,138 @@
 // One call: its arguments are made, and its reference function is entered. The first function of a call counts as entered before
 // its arguments take cells: 19, deepest, then 20.
 ghost use Rattle.std.specs.Prelude.{◌≡◌};
-ghost use Rattle.producer.specs.Machine.{machine, end_2};
+ghost use Rattle.producer.specs.Answers.{end};
+ghost use Rattle.producer.specs.Machine.{over};
 ghost use Rattle.run.specs.Call.{with_term, with_sides, by_code, with_context, called};
 
 use crate::build::{DEPTH, build, scope, wide};
-use ast::cells::quote;
 use ast::kinds::NIL;
-use ast::words::succ;
-use producer::State;
-use producer::answers::{Got, Two};
-use syntax::{CallHead, calls};
+use producer::answers::Answer;
+use producer::{State, Tables};
+use syntax::{CallHead, Code};
 
 // The row and the result of the call at `at`, which has this head, or its refusal. A result that is a term is the lowest cell with
 // its quote.
-#[tactic(auto, unfolding(producer::specs::Machine::end_2, crate::specs::Call::called, crate::proofs::Steps::steps))]
+#[tactic(auto, unfolding(crate::specs::Call::called, crate::proofs::Steps::steps, ast::specs::Words::up))]
 pub fn call(
     state: State,
     bytes: &[u8],
     at: u32,
     head: CallHead,
-    rows: &mut [u32],
-    cells: &mut [u32],
-) -> Two
-    ensures { end_2 result rows.new cells.new ≡ called bytes.now at head (machine rows.old cells.old state) }
+    tables: &mut Tables,
+) -> Answer<(u32, u32)>
+    ensures { end result tables.new ≡ called bytes.now at head (over tables.old state) }
 {
     let left = state.limit;
-    let second = succ(at);
-    let third = succ(second);
-    let types = succ(third);
-    enter_context(state, left, bytes, types, head, rows, cells)
+    let second = at.wrapping_add(1);
+    let third = second.wrapping_add(1);
+    let types = third.wrapping_add(1);
+    enter_context(state, left, bytes, types, head, tables)
 }
 
 // The context of a call, whose types start at `at`; then the function of its code.
-#[tactic(auto, unfolding(producer::specs::Machine::end_2, crate::specs::Call::with_context, crate::proofs::Steps::steps))]
+#[tactic(auto, unfolding(crate::specs::Call::with_context, crate::proofs::Steps::steps))]
 pub fn enter_context(
     state: State,
     left: u32,
     bytes: &[u8],
     at: u32,
     head: CallHead,
-    rows: &mut [u32],
-    cells: &mut [u32],
-) -> Two
-    ensures { end_2 result rows.new cells.new ≡ with_context left bytes.now at head (machine rows.old cells.old state) }
+    tables: &mut Tables,
+) -> Answer<(u32, u32)>
+    ensures { end result tables.new ≡ with_context left bytes.now at head (over tables.old state) }
 {
-    match state.prepare(left, rows, cells, NIL, 0, 0) {
-        Got::Is(s1, nil) => {
-            let q = scope(s1, wide(head.size), bytes, at, rows, cells, nil);
-            let Two::Pair(s2, g, terms) = q else {
-                return q;
-            };
-            enter(
-                s2,
-                left,
-                bytes,
-                terms,
-                rows,
-                cells,
-                head.code,
-                wide(head.dims),
-                g,
-            )
-        }
-        Got::Refused(s1, e) => Two::Refused(s1, e),
-    }
+    let (s1, nil) = state.prepare(left, tables, NIL, 0, 0)?;
+    let (s2, (g, terms)) = scope(s1, wide(head.size), bytes, at, tables, nil)?;
+    enter(
+        s2,
+        left,
+        bytes,
+        terms,
+        tables,
+        head.code,
+        wide(head.dims),
+        g,
+    )
 }
 
 // Enters the function of a code; its terms start at `at`.
-#[tactic(auto, unfolding(producer::specs::Machine::end_2, crate::specs::Call::by_code, crate::proofs::Steps::steps))]
+#[tactic(auto, unfolding(crate::specs::Call::by_code, crate::proofs::Steps::steps))]
 pub fn enter(
     state: State,
     left: u32,
     bytes: &[u8],
     at: u32,
-    rows: &mut [u32],
-    cells: &mut [u32],
-    code: u8,
+    tables: &mut Tables,
+    code: Code,
     d: u32,
     g: u32,
-) -> Two
-    ensures { end_2 result rows.new cells.new ≡ by_code left bytes.now at code d g (machine rows.old cells.old state) }
+) -> Answer<(u32, u32)>
+    ensures { end result tables.new ≡ by_code left bytes.now at code d g (over tables.old state) }
 {
-    if code == calls::CONTEXT {
-        return match state.ctx(left, rows, cells, d, g) {
-            Got::Is(s, row) => Two::Pair(s, row, 0),
-            Got::Refused(s, e) => Two::Refused(s, e),
-        };
+    if let Code::Context = code {
+        let (s, row) = state.ctx(left, tables, d, g)?;
+        return Ok((s, (row, 0)));
     }
-    let q = build(state, DEPTH, bytes, at, rows, cells);
-    let Two::Pair(s1, t, next) = q else {
-        return q;
-    };
+    let (s1, (t, next)) = build(state, DEPTH, bytes, at, tables)?;
     match code {
-        calls::UNIVERSE => {
-            return match s1.universe(left, rows, cells, d, g, t) {
-                Two::Pair(s, level, row) => Two::Pair(s, row, level),
-                Two::Refused(s, e) => Two::Refused(s, e),
-            };
+        Code::Universe => {
+            let (s, (level, row)) = s1.universe(left, tables, d, g, t)?;
+            Ok((s, (row, level)))
         }
-        calls::INFER => {
-            return match s1.infer(left, rows, cells, d, g, t) {
-                Two::Pair(s, ty, row) => Two::Pair(s, row, quote(cells, ty)),
-                Two::Refused(s, e) => Two::Refused(s, e),
-            };
+        Code::Infer => {
+            let (s, (ty, row)) = s1.infer(left, tables, d, g, t)?;
+            Ok((s, (row, tables.quote(ty))))
         }
-        _ => {}
+        _ => enter_two(s1, left, bytes, next, tables, code, d, g, t),
     }
-    enter_two(s1, left, bytes, next, rows, cells, code, d, g, t)
 }
 
 // A function of two terms or three, the first of which is made.
-#[tactic(auto, unfolding(producer::specs::Machine::end_2, crate::specs::Call::with_term, crate::proofs::Steps::steps))]
+#[tactic(auto, unfolding(crate::specs::Call::with_term, crate::proofs::Steps::steps))]
 pub fn enter_two(
     state: State,
     left: u32,
     bytes: &[u8],
     at: u32,
-    rows: &mut [u32],
-    cells: &mut [u32],
-    code: u8,
+    tables: &mut Tables,
+    code: Code,
     d: u32,
     g: u32,
     t: u32,
-) -> Two
-    ensures { end_2 result rows.new cells.new ≡ with_term left bytes.now at code d g t (machine rows.old cells.old state) }
+) -> Answer<(u32, u32)>
+    ensures { end result tables.new ≡ with_term left bytes.now at code d g t (over tables.old state) }
 {
-    let q = build(state, DEPTH, bytes, at, rows, cells);
-    let Two::Pair(s1, u, next) = q else {
-        return q;
-    };
+    let (s1, (u, next)) = build(state, DEPTH, bytes, at, tables)?;
     match code {
-        calls::CHECK => {
-            return match s1.check(left, rows, cells, d, g, t, u) {
-                Got::Is(s, row) => Two::Pair(s, row, 0),
-                Got::Refused(s, e) => Two::Refused(s, e),
-            };
+        Code::Check => {
+            let (s, row) = s1.check(left, tables, d, g, t, u)?;
+            Ok((s, (row, 0)))
         }
-        calls::NORMALISE => {
-            return match s1.normalize(left, rows, cells, d, g, t, u) {
-                Two::Pair(s, normal, row) => Two::Pair(s, row, quote(cells, normal)),
-                Two::Refused(s, e) => Two::Refused(s, e),
-            };
+        Code::Normalise => {
+            let (s, (normal, row)) = s1.normalize(left, tables, d, g, t, u)?;
+            Ok((s, (row, tables.quote(normal))))
         }
-        _ => {}
+        _ => enter_equal(s1, left, bytes, next, tables, d, g, t, u),
     }
-    enter_equal(s1, left, bytes, next, rows, cells, d, g, t, u)
 }
 
 // The last term is the type at which two are equal.
-#[tactic(auto, unfolding(producer::specs::Machine::end_2, crate::specs::Call::with_sides, crate::proofs::Steps::steps))]
+#[tactic(auto, unfolding(crate::specs::Call::with_sides, crate::proofs::Steps::steps))]
 pub fn enter_equal(
     state: State,
     left: u32,
     bytes: &[u8],
     at: u32,
-    rows: &mut [u32],
-    cells: &mut [u32],
+    tables: &mut Tables,
     d: u32,
     g: u32,
     a: u32,
     b: u32,
-) -> Two
-    ensures { end_2 result rows.new cells.new ≡ with_sides left bytes.now at d g a b (machine rows.old cells.old state) }
+) -> Answer<(u32, u32)>
+    ensures { end result tables.new ≡ with_sides left bytes.now at d g a b (over tables.old state) }
 {
-    let q = build(state, DEPTH, bytes, at, rows, cells);
-    let Two::Pair(s1, ty, _) = q else {
-        return q;
-    };
-    match s1.equal(left, rows, cells, d, g, a, b, ty) {
-        Got::Is(s, row) => Two::Pair(s, row, 0),
-        Got::Refused(s, e) => Two::Refused(s, e),
-    }
+    let (s1, (ty, _)) = build(state, DEPTH, bytes, at, tables)?;
+    let (s, row) = s1.equal(left, tables, d, g, a, b, ty)?;
+    Ok((s, (row, 0)))
 }

@@ -1,17 +1,17 @@
 // The entry: a run of bytes over the three lent slices. A run that is refused as a whole changes nothing; words past the used ones stay.
 ghost use Rattle.std.specs.Prelude.{◌≡◌, ◌*◌, [], ◌∷◌, length};
 ghost use Rattle.std.proofs.lemmas.List.Edits.{sets};
-ghost use Rattle.producer.specs.Machine.{machine};
+ghost use Rattle.producer.specs.Machine.{over};
 ghost use Rattle.run.specs.Contract.{Runs};
 ghost use Rattle.run.specs.Run.{low_of, at_most, started, refused_of, answered_of, turn_end, turned, play_end, played, refused_run, end_run, run_of};
 
 use crate::call::call;
 use ast::refusals;
-use ast::words::{put, succ};
-use producer::State;
-use producer::answers::Two;
+use ast::words::put_all;
+use producer::answers::{Answer, Refused};
+use producer::{State, Tables};
 use ran::Ran;
-use syntax::{Scanned, Size, scan_run, size_call};
+use syntax::{Unfit, Unread, scan_run, size_call};
 
 // The row of a refused call.
 const NO_ROW: u32 = 4294967295;
@@ -71,24 +71,24 @@ fn refused(state: State, number: u32, next: usize) -> Turn
 
 // A call that was walked.
 #[tactic(auto, unfolding(crate::specs::Run::answered_of))]
-fn answered(q: Two, next: usize) -> Turn
-    ensures { result ≡ answered_of q next }
+fn answered(answer: Answer<(u32, u32)>, next: usize) -> Turn
+    ensures { result ≡ answered_of answer next }
 {
-    match q {
-        Two::Pair(s, row, result) => Turn {
-            state: s,
+    match answer {
+        Ok((state, (row, result))) => Turn {
+            state,
             number: 0,
             row,
             result,
-            deepest: s.deepest,
+            deepest: state.deepest,
             next,
         },
-        Two::Refused(s, e) => Turn {
-            state: s,
-            number: e,
+        Err(Refused { state, number }) => Turn {
+            state,
+            number,
             row: NO_ROW,
             result: 0,
-            deepest: s.deepest,
+            deepest: state.deepest,
             next,
         },
     }
@@ -96,27 +96,18 @@ fn answered(q: Two, next: usize) -> Turn
 
 // The call at `at`: its limits first. In a run that was read, no size is bad or short.
 #[tactic(auto, unfolding(crate::specs::Run::turned, crate::specs::Run::turned_by, crate::proofs::Steps::steps))]
-fn step(
-    state: State,
-    bytes: &[u8],
-    at: usize,
-    stack: &mut [u8],
-    rows: &mut [u32],
-    cells: &mut [u32],
-) -> Turn
-    ensures { turn_end result rows.new cells.new ≡ turned (length stack.old) bytes.now at (machine rows.old cells.old state) }
+fn step(state: State, bytes: &[u8], at: usize, stack: &mut [u8], tables: &mut Tables) -> Turn
+    ensures { turn_end result tables.new.rows.now tables.new.cells.now ≡ turned (length stack.old) bytes.now at (over tables.old state) }
 {
-    let size = size_call(bytes, at, stack);
-    match size {
-        Size::Fits(head, _, next) => {
+    match size_call(bytes, at, stack) {
+        Ok(fitting) => {
             let s = state.begin();
             let from = low(at);
-            let q = call(s, bytes, from, head, rows, cells);
-            answered(q, next)
+            answered(call(s, bytes, from, fitting.head, tables), fitting.next)
         }
-        Size::Refused(number, next) => refused(state, number, next),
-        Size::Bad(place) => refused(state, refusals::UNREAD, place),
-        Size::Short => refused(state, refusals::UNREAD, at),
+        Err(Unfit::Refused(number, next)) => refused(state, number, next),
+        Err(Unfit::Unread(Unread::Bad(place))) => refused(state, refusals::UNREAD, place),
+        Err(Unfit::Unread(Unread::Short)) => refused(state, refusals::UNREAD, at),
     }
 }
 
@@ -124,11 +115,7 @@ fn step(
 fn put_answer(answers: &mut [u32], i: u32, number: u32, row: u32, res: u32, deepest: u32)
     ensures { answers.new ≡ sets answers.old (i * 4) (number ∷ row ∷ res ∷ deepest ∷ []) }
 {
-    let at = (i as usize) * 4;
-    put(answers, at, number);
-    put(answers, at + 1, row);
-    put(answers, at + 2, res);
-    put(answers, at + 3, deepest);
+    put_all(answers, (i as usize) * 4, &[number, row, res, deepest]);
 }
 
 // Plays so many calls, the first at offset 2.
@@ -138,23 +125,18 @@ fn play(
     calls: u32,
     bytes: &[u8],
     stack: &mut [u8],
-    rows: &mut [u32],
-    cells: &mut [u32],
+    tables: &mut Tables,
     answers: &mut [u32],
 ) -> State
-    ensures { play_end result rows.new cells.new answers.new ≡ played calls (length stack.old) bytes.now 2 0 (machine rows.old cells.old state) answers.old }
+    ensures { play_end result tables.new.rows.now tables.new.cells.now answers.new ≡ played calls (length stack.old) bytes.now 2 0 (over tables.old state) answers.old }
 {
     let mut s = state;
     let mut at: usize = 2;
-    let mut done: u32 = 0;
-    let mut left = calls;
-    while 0 < left {
-        let t = step(s, bytes, at, stack, rows, cells);
-        put_answer(answers, done, t.number, t.row, t.result, t.deepest);
-        s = t.state;
-        at = t.next;
-        done = succ(done);
-        left = left - 1;
+    for i in 0..calls {
+        let turn = step(s, bytes, at, stack, tables);
+        put_answer(answers, i, turn.number, turn.row, turn.result, turn.deepest);
+        s = turn.state;
+        at = turn.next;
     }
     s
 }
@@ -184,18 +166,18 @@ fn play_run(bytes: &[u8], rows: &mut [u32], cells: &mut [u32], answers: &mut [u3
     if cells.len() < 8 {
         return no_run(refusals::SLICES, 0);
     }
-    let scanned = scan_run(bytes);
-    match scanned {
-        Scanned::Refused(number, place) => no_run(number, place),
-        Scanned::Calls(limit, calls) => {
+    match scan_run(bytes) {
+        Err(refusal) => no_run(refusal.number, refusal.place),
+        Ok(scanned) => {
             let most = answers.len() / 4;
-            if most < calls {
+            if most < scanned.calls {
                 return no_run(refusals::ANSWERS, 0);
             }
-            let s = start(limit, rows.len(), cells.len());
-            let count = low(calls);
+            let s = start(scanned.limit, rows.len(), cells.len());
+            let count = low(scanned.calls);
             let mut stack = [0u8; 131073];
-            let last = play(s, count, bytes, &mut stack, rows, cells, answers);
+            let mut tables = Tables { rows, cells };
+            let last = play(s, count, bytes, &mut stack, &mut tables, answers);
             Ran {
                 number: 0,
                 place: 0,

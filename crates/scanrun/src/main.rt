@@ -1,191 +1,133 @@
 // Shows what the reader says of runs on each side of its edges.
 #![tactic(auto)]
 
-use std::io;
-use syntax::{Scanned, Size};
-
-fn text(rt: &impl Print, s: &[u8]) -> io::Result<()> {
-    rt.write_all(s)
-}
-
-fn pair(rt: &impl Print, a: &[u8], x: usize, b: &[u8], y: usize) -> io::Result<()> {
-    text(rt, a)?;
-    rt.print(x)?;
-    text(rt, b)?;
-    rt.print(y)?;
-    text(rt, b"\n")
-}
+use std::alloc::AllocError;
+use std::{io, iter};
+use syntax::{Fitting, Refusal, Scanned, Unfit, Unread};
 
 // The nesting limit and the number of calls, or the refusal and its place.
-fn run(rt: &impl Print, label: &[u8], s: &[u8]) -> io::Result<()> {
-    text(rt, label)?;
-    match syntax::scan_run(s) {
-        Scanned::Calls(limit, calls) => pair(rt, b": limit ", limit, b", calls ", calls),
-        Scanned::Refused(number, place) => pair(rt, b": refused ", number as usize, b" at ", place),
+fn run(rt: &impl Print, label: &str, bytes: &[u8]) -> io::Result<()> {
+    match syntax::scan_run(bytes) {
+        Ok(Scanned { limit, calls }) => println!(rt; "{label}: limit {limit}, calls {calls}"),
+        Err(Refusal { number, place }) => println!(rt; "{label}: refused {number} at {place}"),
     }
 }
 
 // The first call's nodes, or its refusal, and the offset past it.
-fn call(rt: &impl Print, label: &[u8], s: &[u8]) -> io::Result<()> {
+fn call(rt: &impl Print, label: &str, bytes: &[u8]) -> io::Result<()> {
     let mut stack = [0u8; 131073];
-    text(rt, label)?;
-    match syntax::size_call(s, 2, &mut stack) {
-        Size::Fits(_, nodes, next) => pair(rt, b": nodes ", nodes, b", next ", next),
-        Size::Refused(number, next) => pair(rt, b": refused ", number as usize, b", next ", next),
-        Size::Bad(place) => pair(rt, b": bad ", place, b" of ", s.len()),
-        Size::Short => text(rt, b": no room\n"),
+    match syntax::size_call(bytes, 2, &mut stack) {
+        Ok(Fitting { nodes, next, .. }) => println!(rt; "{label}: nodes {nodes}, next {next}"),
+        Err(Unfit::Refused(number, next)) => println!(rt; "{label}: refused {number}, next {next}"),
+        Err(Unfit::Unread(Unread::Bad(place))) => println!(rt;
+            "{label}: bad {place} of {}",
+            bytes.len()
+        ),
+        Err(Unfit::Unread(Unread::Short)) => println!(rt; "{label}: no room"),
     }
 }
 
+// The bytes as a run, and as one with a call to be sized.
+fn both(rt: &impl Print, label: &str, bytes: &[u8]) -> io::Result<()> {
+    run(rt, label, bytes)?;
+    call(rt, label, bytes)
+}
+
 fn headers(rt: &impl Print) -> io::Result<()> {
-    run(rt, b"empty", &[])?;
-    run(rt, b"one byte", &[100])?;
-    run(rt, b"limit 0", &[0, 0])?;
-    run(rt, b"limit 1", &[1, 0])?;
-    run(rt, b"limit 4096", &[0, 16])?;
-    run(rt, b"limit 4097", &[1, 16])?;
-    run(rt, b"limit 0, then no code", &[0, 0, 6])
+    run(rt, "empty", &[])?;
+    run(rt, "one byte", &[100])?;
+    run(rt, "limit 0", &[0, 0])?;
+    run(rt, "limit 1", &[1, 0])?;
+    run(rt, "limit 4096", &[0, 16])?;
+    run(rt, "limit 4097", &[1, 16])?;
+    run(rt, "limit 0, then no code", &[0, 0, 6])
 }
 
 // The place is the leftmost byte that may not stand there, or the length.
 fn places(rt: &impl Print) -> io::Result<()> {
-    run(rt, b"check zero at nat", &[100, 0, 3, 0, 0, 4, 3])?;
-    run(rt, b"no code", &[100, 0, 6, 0, 0, 4, 3])?;
-    run(rt, b"code alone", &[100, 0, 3])?;
-    run(rt, b"no length", &[100, 0, 3, 0])?;
-    run(rt, b"no term", &[100, 0, 3, 0, 0])?;
-    run(rt, b"no kind", &[100, 0, 3, 0, 0, 15, 0])?;
-    run(rt, b"no type", &[100, 0, 3, 0, 0, 4])?;
-    run(rt, b"no kind in the type", &[100, 0, 3, 0, 0, 4, 0])?;
-    run(rt, b"v without a number", &[100, 0, 2, 0, 0, 2])?;
+    run(rt, "check zero at nat", &[100, 0, 3, 0, 0, 4, 3])?;
+    run(rt, "no code", &[100, 0, 6, 0, 0, 4, 3])?;
+    run(rt, "code alone", &[100, 0, 3])?;
+    run(rt, "no length", &[100, 0, 3, 0])?;
+    run(rt, "no term", &[100, 0, 3, 0, 0])?;
+    run(rt, "no kind", &[100, 0, 3, 0, 0, 15, 0])?;
+    run(rt, "no type", &[100, 0, 3, 0, 0, 4])?;
+    run(rt, "no kind in the type", &[100, 0, 3, 0, 0, 4, 0])?;
+    run(rt, "v without a number", &[100, 0, 2, 0, 0, 2])?;
     run(
         rt,
-        b"papp with an interval",
+        "papp with an interval",
         &[100, 0, 2, 0, 0, 10, 4, 20, 16, 18, 255],
     )?;
-    run(rt, b"papp with a term", &[100, 0, 2, 0, 0, 10, 4, 4])?;
-    run(rt, b"interval for a term", &[100, 0, 2, 0, 0, 16])?;
-    run(rt, b"second call cut", &[100, 0, 0, 0, 0, 1, 0])
-}
-
-// Puts b at count places from an offset on, as far as there are any.
-fn fill(s: &mut [u8], from: usize, count: usize, b: u8) {
-    let mut at = from;
-    let mut left = count;
-    while 0 < left {
-        if s.len() <= at {
-            return;
-        }
-        s[at] = b;
-        at = at + 1;
-        left = left - 1;
-    }
-}
-
-// The first n bytes, as a run and as a call.
-fn part(rt: &impl Print, label: &[u8], s: &[u8], n: usize) -> io::Result<()> {
-    if n <= s.len() {
-        let t = &s[..n];
-        run(rt, label, t)?;
-        call(rt, label, t)?;
-    }
-    Ok(())
+    run(rt, "papp with a term", &[100, 0, 2, 0, 0, 10, 4, 4])?;
+    run(rt, "interval for a term", &[100, 0, 2, 0, 0, 16])?;
+    run(rt, "second call cut", &[100, 0, 0, 0, 0, 1, 0])
 }
 
 // infer papp(zero, neg .. neg dim n), with so many negs: the dim's depth is one more.
-fn deep(rt: &impl Print, label: &[u8], negs: usize, n: u8) -> io::Result<()> {
-    let mut s = [0u8; 60032];
-    if 60000 < negs {
-        return Ok(());
-    }
-    let at = 7 + negs;
-    s[0] = 100;
-    s[2] = 2;
-    s[5] = 10;
-    s[6] = 4;
-    fill(&mut s, 7, negs, 19);
-    s[at] = 18;
-    s[at + 1] = n;
-    part(rt, label, &s, at + 2)
+fn deep(rt: &(impl Print + AllocGlobal), label: &str, negs: usize, n: u8) -> io::Result<()> {
+    let mut bytes = vec![in rt.alloc(); 100, 0, 2, 0, 0, 10, 4]?;
+    bytes.extend(iter::repeat_n(19, negs))?;
+    bytes.extend([18, n])?;
+    both(rt, label, &bytes)
 }
 
 // A context of so many nats.
-fn nats(rt: &impl Print, label: &[u8], dims: u8, size: u8) -> io::Result<()> {
-    let mut s = [0u8; 300];
-    let n = size as usize;
-    s[0] = 100;
-    s[3] = dims;
-    s[4] = size;
-    fill(&mut s, 5, n, 3);
-    part(rt, label, &s, 5 + n)
+fn nats(rt: &(impl Print + AllocGlobal), label: &str, dims: u8, size: u8) -> io::Result<()> {
+    let mut bytes = vec![in rt.alloc(); 100, 0, 0, dims, size]?;
+    bytes.extend(iter::repeat_n(3, usize::from(size)))?;
+    both(rt, label, &bytes)
 }
 
-fn limits(rt: &impl Print) -> io::Result<()> {
-    call(rt, b"index 32", &[100, 0, 2, 0, 0, 2, 32])?;
-    call(rt, b"index 33", &[100, 0, 2, 0, 0, 2, 33])?;
-    call(rt, b"level 33", &[100, 0, 2, 0, 0, 1, 33])?;
-    deep(rt, b"depth 32", 31, 32)?;
-    deep(rt, b"depth 33", 32, 32)?;
-    deep(rt, b"depth 32, dim 33", 31, 33)?;
-    deep(rt, b"depth 33, dim 33", 32, 33)?;
-    deep(rt, b"depth 60001", 60000, 0)?;
-    nats(rt, b"33 dims, 33 types", 33, 33)?;
-    nats(rt, b"34 dims", 34, 0)?;
-    nats(rt, b"34 types", 0, 34)?;
-    call(rt, b"34 dims, index 33", &[100, 0, 2, 34, 0, 2, 33])?;
-    call(rt, b"no kind after index 33", &[100, 0, 3, 0, 0, 2, 33, 0])
+fn limits(rt: &(impl Print + AllocGlobal)) -> io::Result<()> {
+    call(rt, "index 32", &[100, 0, 2, 0, 0, 2, 32])?;
+    call(rt, "index 33", &[100, 0, 2, 0, 0, 2, 33])?;
+    call(rt, "level 33", &[100, 0, 2, 0, 0, 1, 33])?;
+    deep(rt, "depth 32", 31, 32)?;
+    deep(rt, "depth 33", 32, 32)?;
+    deep(rt, "depth 32, dim 33", 31, 33)?;
+    deep(rt, "depth 33, dim 33", 32, 33)?;
+    deep(rt, "depth 60001", 60000, 0)?;
+    nats(rt, "33 dims, 33 types", 33, 33)?;
+    nats(rt, "34 dims", 34, 0)?;
+    nats(rt, "34 types", 0, 34)?;
+    call(rt, "34 dims, index 33", &[100, 0, 2, 34, 0, 2, 33])?;
+    call(rt, "no kind after index 33", &[100, 0, 3, 0, 0, 2, 33, 0])
 }
 
-// A full tree of applications, so deep, from an offset on; gives the offset past it.
-fn tree(s: &mut [u8], at: usize, depth: usize) -> usize {
-    if s.len() <= at {
-        return at;
-    }
+// Adds a full tree of applications, so deep.
+fn tree(bytes: &mut Vec<u8>, depth: usize) -> Result<(), AllocError> {
     if depth == 0 {
-        s[at] = 4;
-        return at + 1;
+        bytes.push(4)?;
+        return Ok(());
     }
-    s[at] = 7;
-    let middle = tree(s, at + 1, depth - 1);
-    tree(s, middle, depth - 1)
+    bytes.push(7)?;
+    tree(bytes, depth - 1)?;
+    tree(bytes, depth - 1)
 }
 
 // A context whose types are such trees: 8191, 1023, 511, 255, 15, 3, 1 and 1 nodes, and 1 more where it has nine.
-fn nodes(rt: &impl Print, label: &[u8], size: u8) -> io::Result<()> {
-    let mut s = [0u8; 10100];
-    s[0] = 100;
-    s[4] = size;
-    let a = tree(&mut s, 5, 12);
-    let b = tree(&mut s, a, 9);
-    let c = tree(&mut s, b, 8);
-    let d = tree(&mut s, c, 7);
-    let e = tree(&mut s, d, 3);
-    let f = tree(&mut s, e, 1);
-    let g = tree(&mut s, f, 0);
-    let h = tree(&mut s, g, 0);
-    if size == 8 {
-        part(rt, label, &s, h)
-    } else {
-        let i = tree(&mut s, h, 0);
-        part(rt, label, &s, i)
+fn nodes(rt: &(impl Print + AllocGlobal), label: &str, size: u8) -> io::Result<()> {
+    let mut bytes = vec![in rt.alloc(); 100, 0, 0, 0, size]?;
+    for depth in [12, 9, 8, 7, 3, 1, 0, 0, 0].iter().take(usize::from(size)) {
+        tree(&mut bytes, *depth)?;
     }
+    both(rt, label, &bytes)
 }
 
-fn large(rt: &impl Print) -> io::Result<()> {
-    let mut s = [0u8; 65537];
-    s[0] = 100;
-    s[4] = 2;
-    s[5] = 3;
-    s[6] = 3;
-    run(rt, b"65536 bytes", &s[..65536])?;
-    run(rt, b"65537 bytes", &s)
+fn large(rt: &(impl Print + AllocGlobal)) -> io::Result<()> {
+    let mut bytes = vec![in rt.alloc(); 100, 0, 0, 0, 2, 3, 3]?;
+    bytes.resize(65536, 0)?;
+    run(rt, "65536 bytes", &bytes)?;
+    bytes.push(0)?;
+    run(rt, "65537 bytes", &bytes)
 }
 
 fn main(rt: HostRuntime) -> io::Result<()> {
     headers(&rt)?;
     places(&rt)?;
     limits(&rt)?;
-    nodes(&rt, b"10000 nodes", 8)?;
-    nodes(&rt, b"10001 nodes", 9)?;
+    nodes(&rt, "10000 nodes", 8)?;
+    nodes(&rt, "10001 nodes", 9)?;
     large(&rt)
 }

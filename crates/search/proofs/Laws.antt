@@ -1,34 +1,15 @@
 -- Laws of the definitions, by which the functions' proofs go. Assumes nothing.
-use Prim.Native.Nat.{ℕ, zero, suc, ◌+◌, ◌*◌, ◌-◌, ◌<◌, ◌≤◌}
+use Prim.Native.Nat.{ℕ, zero, suc, ◌+◌, ◌-◌, ◌<◌, ◌≤◌}
 use mathlib.Core.Path.{◌≡◌, refl}
 use mathlib.Core.Bool.{Bool, true, false}
 use mathlib.Core.List.{List}
-use native.Mathlib.Nat.{add-zero}
 use native.Mathlib.Numerals.{add-one}
 use native.Mathlib.Omega.{arith}
-use lib.ListN.{get_or, set}
-use lib.Seq.{sets}
+use Rattle.std.specs.Prelude.{Some, None}
 use Rattle.ast.specs.Cells.{last_of}
-use Rattle.ast.specs.declared.cells.Found.TheVariants.{At, Nothing}
-use Rattle.walk.specs.Rule.{kind_of}
-use Rattle.producer.specs.Machine.{link_row}
 use Rattle.search.specs.declared.plain.Wanted.{Wanted}
 use Rattle.search.specs.Plain.{row_is, scan_rows}
-use Rattle.search.specs.Indexing.{last_five, index_row, indexed}
-
--- five words, one after the other
-pub put_five : (S : List ℕ) (i k : ℕ) → sets S (i + 19) (last_five k) ≡ set (set (set (set (set S (i + 19) k) (i + 20) 0) (i + 21) 0) (i + 22) 0) (i + 23) 0
-put_five S i k =
-    let e1 : i + 20 ≡ suc (i + 19) = omega arith in
-    let e2 : i + 21 ≡ suc (suc (i + 19)) = omega arith in
-    let e3 : i + 22 ≡ suc (suc (suc (i + 19))) = omega arith in
-    let e4 : i + 23 ≡ suc (suc (suc (suc (i + 19)))) = omega arith in
-    rw (e1, e2, e3, e4)
-
--- a row by where it starts
-pub index_row_at : (R : List ℕ) (n at : ℕ) → at ≡ n * 24 → index_row R n ≡ sets (link_row R n (kind_of (get_or R at 0)) (get_or R (at + 13) 0) (get_or R (at + 14) 0) (get_or R (at + 15) 0) (get_or R (at + 16) 0) (get_or R (at + 17) 0)) (n * 24 + 19) (last_five (kind_of (get_or R at 0)))
-unfolding index_row
-index_row_at R n at e = rw (e, add-zero)
+use Rattle.search.specs.Indexing.{index_row, indexed}
 
 -- rows that are indexed one after the other
 pub indexed_none : (R : List ℕ) → indexed R 0 ≡ R
@@ -50,12 +31,12 @@ unfolding last_of
 last_turn t zero l e = absurd (let z : ⊥ = omega arith in z)
 last_turn t (suc i) l e = let z : suc i - 1 ≡ i = omega arith in let f : t i ≡ false = rw z at e in rw (f, z)
 
-pub last_here : (t : ℕ → Bool) (i : ℕ) → 0 < i → t (i - 1) ≡ true → last_of t i ≡ At (i - 1)
+pub last_here : (t : ℕ → Bool) (i : ℕ) → 0 < i → t (i - 1) ≡ true → last_of t i ≡ Some (i - 1)
 unfolding last_of
 last_here t zero l e = absurd (let z : ⊥ = omega arith in z)
 last_here t (suc i) l e = let z : suc i - 1 ≡ i = omega arith in let f : t i ≡ true = rw z at e in rw (f, z)
 
-pub last_none : (t : ℕ → Bool) (i : ℕ) → i ≤ 0 → last_of t i ≡ Nothing
+pub last_none : (t : ℕ → Bool) (i : ℕ) → i ≤ 0 → last_of t i ≡ None
 unfolding last_of
 last_none t zero l = refl
 last_none t (suc i) l = absurd (let z : ⊥ = omega arith in z)

@@ -1,14 +1,14 @@
 -- The plain search gives the highest row that states a judgment, over any rows and any cells; and the search by the index is the same
 -- wherever arguments are lowest cells.
-use Rattle.std.specs.Prelude.{ℕ, suc, ◌+◌, ◌*◌, ◌<◌, ◌≤◌, ◌≡◌, List, [], ◌∷◌, map, Bool, true, false, length, get_or, eqb, ltb}
+use Rattle.std.specs.Prelude.{ℕ, suc, ◌+◌, ◌*◌, ◌<◌, ◌≤◌, ◌≡◌, List, [], ◌∷◌, map, Bool, true, false, length, get_or, slice_get, Some, None, eqb, ltb}
 use Rattle.std.proofs.Math.Path.{refl, sym, ap}
 use Rattle.std.proofs.Common.{◌∙◌, add-zero, arith, eq-eqb, ltb-true}
 use Rattle.std.proofs.Math.Option.{Option, none, some}
 use Rattle.ast.specs.Words.{ifb}
-use Rattle.ast.specs.declared.cells.Found.{Found}
 use Rattle.producer.specs.Machine.{find_row}
 use Rattle.rules.specs.Kinds.{sort_of}
 use Rattle.rules.specs.Sorts.{sort, sorted}
+use Rattle.rules.specs.declared.Sort.{Sort}
 use Rattle.walk.specs.Judgment.{Judgment, kind, Argument, number, of_interval, of_quote, of_context, arguments}
 use Rattle.walk.specs.Rule.{kind_of}
 use Rattle.link.proofs.Back.{under_5}
@@ -23,6 +23,7 @@ use Rattle.search.specs.Arguments.{ArgumentRead, ReadAll, none_left, ◌then◌,
 use Rattle.search.specs.Indexing.{Indexed}
 use Rattle.search.specs.Found.{states, stated, newest}
 use Rattle.search.specs.Plain.{same_word, same_argument, row_is, scan_rows}
+use Rattle.ast.specs.Cells.{Found}
 
 -- a word of a row against one that is asked for
 
@@ -35,8 +36,8 @@ below_like {A} at m C h x y = go (ltb x m) (ltb y m) refl refl
     go true true e f = rw (cells_within C m x y (ltb-true x m e)) (h x y (ltb-true x m e) (ltb-true y m f))
 
 record ToldWord (m : ℕ) (C : List ℕ) (a : Argument) (x y : ℕ) : Type 0 where
-  reads : same_word C m (sort a) x y ≡ true → ArgumentRead m C a y
-  tells : ArgumentRead m C a y → same_word C m (sort a) x y ≡ true
+  reads : same_word C m (Some (sort a)) x y ≡ true → ArgumentRead m C a y
+  tells : ArgumentRead m C a y → same_word C m (Some (sort a)) x y ≡ true
 
 by_like : {A : Type 0} {o o' : Option A} {b : Bool} {t : A} → Like o o' b → o ≡ some t → (b ≡ true → o' ≡ some t) × (o' ≡ some t → b ≡ true)
 by_like {t = t} l e = (l.same t e, l.tells t e)
@@ -52,7 +53,7 @@ told_word m C (of_context g) x y p = let l = by_like (below_like context_at m C 
 
 module _ (m : ℕ) (C : List ℕ) where
   abbrev SameAt : List Argument → List ℕ → List ℕ → ℕ → Type 0
-  SameAt as' xs ys k = same_word C m (get_or (map sort as') k 0) (get_or xs k 0) (get_or ys k 0) ≡ true
+  SameAt as' xs ys k = same_word C m (slice_get (map sort as') k) (get_or xs k 0) (get_or ys k 0) ≡ true
 
   rows_read : (as' : List Argument) (xs ys : List ℕ) → length as' ≤ length ys → ReadAll m C as' xs → ((k : ℕ) → k < length as' → SameAt as' xs ys k) → ReadAll m C as' ys
   rows_read [] xs ys l none_left h = none_left
@@ -60,7 +61,7 @@ module _ (m : ℕ) (C : List ℕ) where
   rows_read (a ∷ as') (x ∷ xs) [] l (p then ps) h = absurd (let z : ⊥ = omega arith in z)
   rows_read (a ∷ as') (x ∷ xs) (y ∷ ys) l (p then ps) h = (told_word m C a x y p).reads (h 0 (omega arith)) then rows_read as' xs ys (omega arith) ps (λ k i. h (suc k) (omega arith))
 
-  absent_same : (x y : ℕ) → same_word C m 0 x y ≡ true
+  absent_same : (x y : ℕ) → same_word C m None x y ≡ true
   unfolding same_word
   absent_same x y = refl
 
@@ -71,9 +72,9 @@ module _ (m : ℕ) (C : List ℕ) where
   rows_same (a ∷ as') (x ∷ xs) (y ∷ ys) (p then ps) (q then qs) ℕ.zero = (told_word m C a x y p).tells q
   rows_same (a ∷ as') (x ∷ xs) (y ∷ ys) (p then ps) (q then qs) (ℕ.suc k) = rows_same as' xs ys ps qs k
 
-sort_is : (j : Judgment) (k : ℕ) → sort_of (kind j) k ≡ get_or (map sort (arguments j)) k 0
+sort_is : (j : Judgment) (k : ℕ) → sort_of (kind j) k ≡ slice_get (map sort (arguments j)) k
 unfolding sort_of
-sort_is j k = ap (λ (l : List ℕ). get_or l k 0) (sym (sorted j))
+sort_is j k = ap (λ (l : List Sort). slice_get l k) (sym (sorted j))
 
 -- over any words, where what is asked for is a judgment
 module _ (R : List ℕ) (C : List ℕ) (m : ℕ) (w : Wanted) (j : Judgment) (asks : asked m C w.kind w.a w.b w.c w.d w.e ≡ some j) where
@@ -86,7 +87,7 @@ module _ (R : List ℕ) (C : List ℕ) (m : ℕ) (w : Wanted) (j : Judgment) (as
   wanted : Told w.kind m C w.a w.b w.c w.d w.e j
   wanted = told asks
 
-  argument_is : (i k x : ℕ) → same_argument R C m i w.kind k x ≡ same_word C m (get_or (map sort (arguments j)) k 0) x (get_or R (i * 24 + (13 + k)) 0)
+  argument_is : (i k x : ℕ) → same_argument R C m i w.kind k x ≡ same_word C m (slice_get (map sort (arguments j)) k) x (get_or R (i * 24 + (13 + k)) 0)
   unfolding same_argument
   argument_is i k x = rw (← wanted.is, sort_is j k)
 
@@ -102,7 +103,7 @@ module _ (R : List ℕ) (C : List ℕ) (m : ℕ) (w : Wanted) (j : Judgment) (as
       let p₃ = ifb_true (same_argument R C m i w.kind 2 w.c) _ p₂.1 in
       let p₄ = ifb_true (same_argument R C m i w.kind 3 w.d) (same_argument R C m i w.kind 4 w.e) p₃.1 in
       let few = read_length wanted.all in
-      let all = rows_read m C (arguments j) five (words i) few wanted.all (λ k l. under_5 (λ k. same_word C m (get_or (map sort (arguments j)) k 0) (get_or five k 0) (get_or (words i) k 0) ≡ true)
+      let all = rows_read m C (arguments j) five (words i) few wanted.all (λ k l. under_5 (λ k. same_word C m (slice_get (map sort (arguments j)) k) (get_or five k 0) (get_or (words i) k 0) ≡ true)
       (sym (argument_is i 0 w.a) ∙ p₁.0)
       (sym (argument_is i 1 w.b) ∙ p₂.0)
       (sym (argument_is i 2 w.c) ∙ p₃.0)

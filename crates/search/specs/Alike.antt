@@ -1,9 +1,12 @@
 -- Whether two cells show the same, over any words: by kind, and part by part where the quote shows a part. Parts have lower numbers than
 -- the whole. Assumes nothing.
-use Rattle.std.specs.Prelude.{ℕ, zero, suc, ◌+◌, ◌*◌, ◌<◌, ◌≡◌, refl, Bool, true, false, List, get_or, ltb, eqb}
+use Rattle.std.specs.Prelude.{ℕ, zero, suc, ◌+◌, ◌*◌, ◌<◌, ◌≡◌, refl, Bool, true, false, List, Option, Some, None, get_or, ltb, eqb}
 use Rattle.std.proofs.Common.{ap, arith, ltb-true}
 use Rattle.ast.specs.Words.{ifb}
-use Rattle.rules.specs.Kinds.{Part, absent, number, part_of}
+use Rattle.rules.specs.Kinds.{part_of}
+use Rattle.rules.specs.declared.Part.{Part}
+use Rattle.rules.specs.declared.Sort.{Sort}
+use Rattle.rules.specs.declared.Sort.TheVariants.{Number, Term, Interval, Context}
 
 abbrev pub cell_word : List ℕ → ℕ → ℕ → ℕ
 cell_word C i w = get_or C (i * 8 + w) 0
@@ -15,8 +18,16 @@ kind_word C i = get_or C (i * 8) 0
 abbrev pub both_lower : (ℕ → ℕ → Bool) → (i j x y : ℕ) → Bool
 both_lower same i j x y = ifb (ltb x i) (ifb (ltb y j) (same x y) false) false
 
-abbrev pub part_by : (ℕ → ℕ → Bool) → List ℕ → Part → (i j : ℕ) → Bool
-part_by same C p i j = ifb (eqb p.sort absent) true (ifb (eqb p.sort number) (eqb (cell_word C i p.word) (cell_word C j p.word)) (both_lower same i j (cell_word C i p.word) (cell_word C j p.word)))
+-- word w of two cells by its sort: numbers are equal, cells are alike
+abbrev pub part_at : (ℕ → ℕ → Bool) → List ℕ → Sort → (w i j : ℕ) → Bool
+part_at same C Number w i j = eqb (cell_word C i w) (cell_word C j w)
+part_at same C Term w i j = both_lower same i j (cell_word C i w) (cell_word C j w)
+part_at same C Interval w i j = both_lower same i j (cell_word C i w) (cell_word C j w)
+part_at same C Context w i j = both_lower same i j (cell_word C i w) (cell_word C j w)
+
+abbrev pub part_by : (ℕ → ℕ → Bool) → List ℕ → Option Part → (i j : ℕ) → Bool
+part_by same C None i j = true
+part_by same C (Some p) i j = part_at same C p.sort p.word i j
 
 -- a part of the cells i and j, both of the kind k, counted from 0
 unfoldable pub same_part : (ℕ → ℕ → Bool) → List ℕ → (k n i j : ℕ) → Bool
@@ -47,9 +58,19 @@ module _ (C : List ℕ) (i j : ℕ) {s s' : ℕ → ℕ → Bool} (h : (x y : �
       go true e = ap (λ (c : Bool). ifb (ltb y j) c false) (h x y (ltb-true x i e))
       go false e = refl
 
+  sort_alike : (sort : Sort) (w : ℕ) → part_at s C sort w i j ≡ part_at s' C sort w i j
+  sort_alike Number w = refl
+  sort_alike Term w = lower_alike _ _
+  sort_alike Interval w = lower_alike _ _
+  sort_alike Context w = lower_alike _ _
+
+  option_alike : (o : Option Part) → part_by s C o i j ≡ part_by s' C o i j
+  option_alike None = refl
+  option_alike (Some p) = sort_alike p.sort p.word
+
   part_alike : (k n : ℕ) → same_part s C k n i j ≡ same_part s' C k n i j
   unfolding same_part
-  part_alike k n = rw (lower_alike (cell_word C i (part_of k n).word) (cell_word C j (part_of k n).word))
+  part_alike k n = option_alike (part_of k n)
 
   node_alike : same_node s C i j ≡ same_node s' C i j
   unfolding same_node

@@ -5,7 +5,6 @@ use Rattle.std.proofs.Common.{sym, ap, ◌∙◌, arith, eq-eqb, lit<}
 use Rattle.std.proofs.Math.Option.{Option, none, some}
 use Rattle.std.proofs.Math.Decide.{ℕ_discrete}
 use Rattle.ast.specs.Words.{all_eq}
-use Rattle.ast.specs.declared.cells.Found.{Found}
 use Rattle.producer.specs.declared.rows.Refs.{Refs}
 use Rattle.producer.specs.Machine.{Machine, same_row, find_row, row_block, add_row}
 use Rattle.walk.specs.Judgment.{Judgment, kind, Argument, number, of_interval, of_quote, of_context, arguments}
@@ -18,6 +17,7 @@ use Rattle.search.specs.Newest.{Last, last, no_one, RowStates, Newest, asked, Lo
 use Rattle.search.specs.Arguments.{lowest_read}
 use Rattle.search.specs.Highest.{last_found}
 use Rattle.search.specs.Indexing.{Indexed, indexed, reindexed, new_word, row_stays_then, still_indexed}
+use Rattle.ast.specs.Cells.{Found}
 
 -- a row states what its words are read as
 

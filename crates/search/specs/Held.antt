@@ -1,15 +1,13 @@
 -- The rows of a run: they are indexed, their arguments are lowest cells, and no judgment has two of them. So the search gives the one row
 -- that states a judgment, whichever way it went.
-use Rattle.std.specs.Prelude.{ℕ, ◌+◌, ◌*◌, ◌≤◌, ◌<◌, List, [], ◌∷◌, Bool, false, length, get_or, drop, ltb}
+use Rattle.std.specs.Prelude.{ℕ, ◌+◌, ◌*◌, ◌≤◌, ◌<◌, List, [], ◌∷◌, Bool, false, length, get_or, drop, ltb, Some, None}
 use Rattle.std.proofs.Math.Path.{◌≡◌, refl}
 use Rattle.std.proofs.Common.{sym, ap, ◌∙◌, ltb-true, length-append, lit<}
 use Rattle.std.proofs.Math.Option.{Option, none, some}
 use Rattle.std.proofs.Math.Bool.{true}
 use Rattle.std.proofs.Common.{arith}
 use Rattle.ast.specs.Words.{ifb}
-use Rattle.ast.specs.Cells.{or_else}
-use Rattle.ast.specs.declared.cells.Found.{Found}
-use Rattle.ast.specs.declared.cells.Found.TheVariants.{At, Nothing}
+use Rattle.ast.specs.Cells.{Found, or_else}
 use Rattle.producer.specs.Machine.{Machine, find_row}
 use Rattle.schemas.proofs.Concludes.{concludes}
 use Rattle.walk.specs.Syntax.{Interval, I0, I1, Dim, Neg, Meet, Join, Universe, Var, Nat, Zero, Pi, Lam, App, Path, PathLam, PathApp, Sigma, Pair, Fst, Snd, Nil, Cons, Quote, Quotes}
@@ -46,29 +44,29 @@ use Rattle.search.specs.Found as F
 -- the first that passes is no later than any that does
 
 module _ {A : Type 0} (p : A → Bool) where
-  no_first : {m : ℕ} {x : A} (xs : List A) → Nth m x xs → p x ≡ true → first p xs ≡ Nothing → ⊥
+  no_first : {m : ℕ} {x : A} (xs : List A) → Nth m x xs → p x ≡ true → first p xs ≡ None → ⊥
   unfolding first
   no_first {m = m} [] x4 t e = elim x4 [ ]
   no_first (y ∷ xs) (L.here q) t e = go (first p xs) (rw t at e)
     where
-      go : (o : Found) → or_else o (At (length xs)) ≡ Nothing → ⊥
-      go (At n) f = let z : ◌≡◌ {A = ℕ} 0 1 = cc in omega arith
-      go Nothing f = let z : ◌≡◌ {A = ℕ} 0 1 = cc in omega arith
+      go : (o : Found) → or_else o (Some (length xs)) ≡ None → ⊥
+      go (Some n) f = let z : ◌≡◌ {A = ℕ} 0 1 = cc in omega arith
+      go None f = let z : ◌≡◌ {A = ℕ} 0 1 = cc in omega arith
   no_first (y ∷ xs) (L.there h) t e = go (first p xs) refl e (no_first xs h t)
     where
-      go : (o : Found) → first p xs ≡ o → or_else o (ifb (p y) (At (length xs)) Nothing) ≡ Nothing → (first p xs ≡ Nothing → ⊥) → ⊥
-      go (At n) q f ih = let z : ◌≡◌ {A = ℕ} 0 1 = cc in omega arith
-      go Nothing q f ih = ih q
+      go : (o : Found) → first p xs ≡ o → or_else o (ifb (p y) (Some (length xs)) None) ≡ None → (first p xs ≡ None → ⊥) → ⊥
+      go (Some n) q f ih = let z : ◌≡◌ {A = ℕ} 0 1 = cc in omega arith
+      go None q f ih = ih q
 
-  first_least : {n m : ℕ} {x : A} (xs : List A) → first p xs ≡ At n → Nth m x xs → p x ≡ true → n ≤ m
+  first_least : {n m : ℕ} {x : A} (xs : List A) → first p xs ≡ Some n → Nth m x xs → p x ≡ true → n ≤ m
   unfolding first
   first_least {n = n} {m = m} [] e x4 t = elim x4 [ ]
   first_least {n} (y ∷ xs) e (L.here q) t = let l = nth_below (first_passes p (y ∷ xs) n e).nth in omega arith
   first_least {n} {m} (y ∷ xs) e (L.there h) t = go (first p xs) refl e (λ f. first_least xs f h t) (no_first xs h t)
     where
-      go : (o : Found) → first p xs ≡ o → or_else o (ifb (p y) (At (length xs)) Nothing) ≡ At n → (first p xs ≡ At n → n ≤ m) → (first p xs ≡ Nothing → ⊥) → n ≤ m
-      go (At k) q f ih bare = ih (q ∙ f)
-      go Nothing q f ih bare = absurd (bare q)
+      go : (o : Found) → first p xs ≡ o → or_else o (ifb (p y) (Some (length xs)) None) ≡ Some n → (first p xs ≡ Some n → n ≤ m) → (first p xs ≡ None → ⊥) → n ≤ m
+      go (Some k) q f ih bare = ih (q ∙ f)
+      go None q f ih bare = absurd (bare q)
 
 -- A cell is read as what its thing is, and as nothing else.
 
@@ -241,8 +239,8 @@ line_kind (line s) = spoken_kind s
 
 -- Any row with the property, where there is one: what a search in any other order gives.
 pub data Any (P : ℕ → Type 0) (n : ℕ) : Found → Type 0 where
-  one : {i : ℕ} → i < n → P i → Any P n (At i)
-  no_one_has : ((k : ℕ) → k < n → P k → ⊥) → Any P n Nothing
+  one : {i : ℕ} → i < n → P i → Any P n (Some i)
+  no_one_has : ((k : ℕ) → k < n → P k → ⊥) → Any P n None
 
 module _ {o : Before} {w : Machine} {s : State} (h : Holds o w s) (d : DerivationOrder s.rows) where
   table : TableWords s w.rows w.cells

@@ -1,19 +1,18 @@
 -- What a search for a judgment gives: the highest row that states it, and none exactly where no row does. By judgments, as `link`'s
 -- Table reads them from any words: no hash and no index is in sight. Assumes nothing.
-use Rattle.std.specs.Prelude.{ℕ, ◌<◌, ◌≤◌, ◌≡◌, List, [], ◌∷◌, get_or}
+use Rattle.std.specs.Prelude.{ℕ, ◌<◌, ◌≤◌, ◌≡◌, List, [], ◌∷◌, get_or, Some, None}
 use Rattle.std.proofs.Math.Option.{Option, some}
-use Rattle.ast.specs.declared.cells.Found.{Found}
-use Rattle.ast.specs.declared.cells.Found.TheVariants.{At, Nothing}
 use Rattle.walk.specs.Judgment.{Judgment, kind, Argument, number, of_interval, of_quote, of_context, arguments}
 use Rattle.walk.specs.Rule.{kind_of}
 use Rattle.walk.specs.State.{Row}
 use Rattle.search.specs.declared.plain.Wanted.{Wanted}
 use Rattle.link.specs.Table.{an_interval, a_quote, a_context, readings, no_reading, row_word, row_at}
+use Rattle.ast.specs.Cells.{Found}
 
 -- The last number below n that has a property.
 pub data Last (P : ℕ → Type 0) (n : ℕ) : Found → Type 0 where
-  last : {i : ℕ} → i < n → P i → ((k : ℕ) → i < k → k < n → P k → ⊥) → Last P n (At i)
-  no_one : ((k : ℕ) → k < n → P k → ⊥) → Last P n Nothing
+  last : {i : ℕ} → i < n → P i → ((k : ℕ) → i < k → k < n → P k → ⊥) → Last P n (Some i)
+  no_one : ((k : ℕ) → k < n → P k → ⊥) → Last P n None
 
 -- Row i states j, over so many cells: by the rule that it names and the quotes of its arguments.
 pub record RowStates (cells : ℕ) (R C : List ℕ) (j : Judgment) (i : ℕ) : Type 0 where
@@ -34,7 +33,7 @@ pub record Finds (R : List ℕ) (rows : ℕ) (C : List ℕ) (cells : ℕ) (w : W
   -- the highest row that states what is asked for; rows that are read as no judgment are passed over
   pub newest : (j : Judgment) → asked cells C w.kind w.a w.b w.c w.d w.e ≡ some j → Newest rows cells R C j f
   -- where no judgment is asked for: none, or some row
-  pub below : (i : ℕ) → f ≡ At i → i < rows
+  pub below : (i : ℕ) → f ≡ Some i → i < rows
 
 -- Words as a run has them: each argument that is a cell is the lowest with its quote, and unused places are 0.
 

@@ -1,17 +1,22 @@
 -- The plain search: each row from the last down, its kind by its rule and its arguments by quote. And that it gives the highest row that
 -- states the judgment.
-use Rattle.std.specs.Prelude.{ℕ, ◌+◌, ◌*◌, Bool, true, false, List, get_or, ltb, eqb}
+use Rattle.std.specs.Prelude.{ℕ, ◌+◌, ◌*◌, Bool, true, false, List, Option, Some, None, get_or, ltb, eqb}
 use Rattle.ast.specs.Words.{ifb}
-use Rattle.ast.specs.Cells.{last_of}
-use Rattle.ast.specs.declared.cells.Found.{Found}
-use Rattle.rules.specs.Kinds.{absent, number, sort_of}
+use Rattle.ast.specs.Cells.{Found, last_of}
+use Rattle.rules.specs.Kinds.{sort_of}
+use Rattle.rules.specs.declared.Sort.{Sort}
+use Rattle.rules.specs.declared.Sort.TheVariants.{Number, Term, Interval, Context}
 use Rattle.walk.specs.Rule.{kind_of}
 use Rattle.search.specs.declared.plain.Wanted.{Wanted}
 use Rattle.search.specs.Alike.{same_cells}
 
 -- two words by the sort of an argument: x is asked for
-unfoldable pub same_word : (C : List ℕ) → (m sort x y : ℕ) → Bool
-same_word C m sort x y = ifb (eqb sort absent) true (ifb (eqb sort number) (eqb y x) (ifb (ltb y m) (same_cells C x y) false))
+unfoldable pub same_word : (C : List ℕ) → ℕ → Option Sort → (x y : ℕ) → Bool
+same_word C m None x y = true
+same_word C m (Some Number) x y = eqb y x
+same_word C m (Some Term) x y = ifb (ltb y m) (same_cells C x y) false
+same_word C m (Some Interval) x y = ifb (ltb y m) (same_cells C x y) false
+same_word C m (Some Context) x y = ifb (ltb y m) (same_cells C x y) false
 
 unfoldable pub same_argument : (R C : List ℕ) → (m i kind n x : ℕ) → Bool
 same_argument R C m i kind n x = same_word C m (sort_of kind n) x (get_or R (i * 24 + (13 + n)) 0)

@@ -1,24 +1,12 @@
 // The index over any rows, wherever they came from: one after the other is put in, judgments that stand twice included.
-ghost use Rattle.std.specs.Prelude.{◌≡◌, ◌+◌, ◌*◌};
-ghost use Rattle.std.proofs.lemmas.List.Edits.{sets};
-ghost use Rattle.search.specs.Indexing.{last_five, index_row, indexed};
+ghost use Rattle.std.specs.Prelude.{◌≡◌};
+ghost use Rattle.search.specs.Indexing.{index_row, indexed};
 
-use ast::words::{put, word};
+use ast::words::{put_all, word};
 use producer::rows::{link_row, row_start};
 
-// Stores the last five words of row `n`: its kind, and no child.
-fn put_last(rows: &mut [u32], n: u32, kind: u32)
-    ensures { rows.new ≡ sets rows.old (n * 24 + 19) (last_five kind) }
-{
-    let at = row_start(n);
-    put(rows, at + 19, kind);
-    put(rows, at + 20, 0);
-    put(rows, at + 21, 0);
-    put(rows, at + 22, 0);
-    put(rows, at + 23, 0);
-}
-
-// Row `n` comes into the index of those below it, with the kind that its rule concludes.
+// Row `n` comes into the index of those below it, with the kind that its rule concludes and no child.
+#[tactic(auto, unfolding(crate::specs::Indexing::index_row))]
 fn index_row(rows: &mut [u32], n: u32)
     ensures { rows.new ≡ index_row rows.old n }
 {
@@ -30,16 +18,15 @@ fn index_row(rows: &mut [u32], n: u32)
     let d = word(rows, at + 16);
     let e = word(rows, at + 17);
     link_row(rows, n, kind, a, b, c, d, e);
-    put_last(rows, n, kind);
+    put_all(rows, at + 19, &[kind, 0, 0, 0, 0]);
 }
 
 // The first `n` rows are indexed: whatever their working words were, `find_row` then finds the highest row with a judgment.
+#[tactic(auto, using(crate::proofs::Laws::indexed_none, crate::proofs::Laws::indexed_more))]
 pub fn index_rows(rows: &mut [u32], n: u32)
     ensures { rows.new ≡ indexed rows.old n }
 {
-    let mut i = 0u32;
-    while i < n {
+    for i in 0..n {
         index_row(rows, i);
-        i += 1;
     }
 }

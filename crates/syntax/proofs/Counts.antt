@@ -4,7 +4,6 @@ use mathlib.Core.Path.{◌≡◌, refl, ap, ◌∙◌}
 use mathlib.Core.List.{List, ◌∷◌, ◌++◌}
 use mathlib.Core.Bool.{Bool, true, false, ◌||◌}
 use native.Mathlib.Omega.{arith}
-use native.Mathlib.Numerals.{sub-one}
 use borrow.Author.Tests.{lt-ltb, le-ltb}
 use lib.Dec.{ltb}
 use lib.ListN.{length, drop}
@@ -12,72 +11,78 @@ use Rattle.walk.specs.Refusal as Refusal
 use Rattle.walk.specs.Syntax.{Term}
 use Rattle.walk.specs.Reader.{Read, got, bad, read_on, ◌>>=◌, ok, terms_of, Head, Call, read_terms, read_head, read_call}
 use Rattle.walk.specs.Limits.{Sized, fits, scope_over, size_over, index_over, size_on, size_term, size_terms, size_call}
-use Rattle.syntax.specs.Told.{term_at, terms_at, call_at, short, next_of, next_in, head_in, head_of, HeadAt, many_terms, sized, size_of}
+use Rattle.syntax.specs.Told.{term_at, terms_at, call_at, short, unread_at, next_of, next_in, head_in, head_of, HeadAt, many_terms, fits_to, sized, size_of}
 use Rattle.syntax.specs.Ends.{ends, goes_term}
 use Rattle.syntax.specs.Heads.{tells_bad}
 use Rattle.syntax.specs.Calls.{are_terms, call_is, call_head as head_here}
-use Rattle.syntax.specs.Parts.{counted, Faults, Counts, refused_size}
+use Rattle.syntax.specs.Parts.{Count, reached, counted, Faults, Counts}
 use Rattle.syntax.specs.declared.scan.CallHead.{CallHead}
-use Rattle.syntax.specs.declared.scan.Next.{Next}
+use Rattle.std.specs.Prelude.{Result, Ok, Err}
+use Rattle.syntax.specs.declared.scan.Fault.{Fault}
+use Rattle.syntax.specs.declared.scan.Unread.{Unread}
+use Rattle.syntax.specs.declared.scan.Unread.TheVariants.{Bad as Faulty}
 use Rattle.syntax.specs.declared.limits.Counted.{Counted}
-use Rattle.syntax.specs.declared.limits.Counted.TheVariants.{Nodes, Refused, Bad}
-use Rattle.syntax.specs.declared.limits.Size.TheVariants.{Fits, Refused as RefusedCall, Bad as NoCall}
+use Rattle.syntax.specs.declared.limits.Uncounted.{Uncounted}
+use Rattle.syntax.specs.declared.limits.Uncounted.TheVariants.{Refused, Bad}
+use Rattle.syntax.specs.declared.limits.Unfit.TheVariants.{Refused as Over, Unread as NotRead}
 use Rattle.syntax.proofs.Terms.{call_of, terms_after, T, call_here, terms_here}
-use Rattle.syntax.specs.declared.scan.Heading.TheVariants.{Is, Bad as NoHead}
 
 -- The answer tells the size.
-nodes_tell : (s : Sized) (n p end : ℕ) → Nodes n p ≡ counted s end → (s ≡ fits n) × (p ≡ end)
+nodes_tell : (s : Sized) (n p end : ℕ) → reached n p ≡ counted s end → (s ≡ fits n) × (p ≡ end)
 unfolding counted
-nodes_tell (fits m) n p end e = (let q : m ≡ n = cc in rw q, cc)
+nodes_tell (fits m) n p end e =
+    let same : ◌≡◌ {A = Counted} (record { nodes = n; next = p }) (record { nodes = m; next = end }) = cc in
+    (rw (ap (λ (c : Counted). c.nodes) same), ap (λ (c : Counted). c.next) same)
 nodes_tell scope_over n p end e = absurd (let z : ◌≡◌ {A = ℕ} 0 1 = cc in omega arith)
 nodes_tell size_over n p end e = absurd (let z : ◌≡◌ {A = ℕ} 0 1 = cc in omega arith)
 nodes_tell index_over n p end e = absurd (let z : ◌≡◌ {A = ℕ} 0 1 = cc in omega arith)
 
--- one turn
-pub terms_on : (bytes : List ℕ) (k nodes at n p : ℕ) (r : Counted) → 0 < k → Counts (λ t. size_term t 0 nodes) (term_at bytes at) (Nodes n p) → Counts (λ ts. size_terms ts n) (terms_at (k - 1) bytes p) r → Counts (λ ts. size_terms ts nodes) (terms_at k bytes at) r
+-- one turn, after so many
+pub terms_on : (bytes : List ℕ) (k i nodes at : ℕ) (counted : Counted) (r : Count) → i < k → Counts (λ t. size_term t 0 nodes) (term_at bytes at) (Ok counted) → Counts (λ ts. size_terms ts counted.nodes) (terms_at (k - (i + 1)) bytes counted.next) r → Counts (λ ts. size_terms ts nodes) (terms_at (k - i) bytes at) r
 unfolding read_terms ◌>>=◌ read_on ok
-terms_on bytes zero nodes at n p r h c d = absurd (let z : ⊥ = omega arith in z)
-terms_on bytes (suc k) nodes at n p r h c d = first (term_at bytes at) refl c
+terms_on bytes k i nodes at counted r h c d =
+    let left : k - i ≡ suc (k - (i + 1)) = omega arith in
+    rw left (first (term_at bytes at) refl c)
   where
-    rest : (t : Term) → size_term t 0 nodes ≡ fits n → (x : Read (List Term)) → Counts (λ ts. size_terms ts n) x r → Counts (λ ts. size_terms ts nodes) (read_on x (λ ts. ok (t ∷ ts))) r
+    rest : (t : Term) → size_term t 0 nodes ≡ fits counted.nodes → (x : Read (List Term)) → Counts (λ ts. size_terms ts counted.nodes) x r → Counts (λ ts. size_terms ts nodes) (read_on x (λ ts. ok (t ∷ ts))) r
     rest t e (got ts bs end) d = d ∙ (unfold size_terms size_on in rw e)
     rest t e (bad place) d = d
 
-    second : (t : Term) → size_term t 0 nodes ≡ fits n → (bs : List ℕ) → bs ≡ drop p bytes → Counts (λ ts. size_terms ts nodes) (read_on (read_terms (length bytes) k bs p) (λ ts. ok (t ∷ ts))) r
-    second t e bs l = rw l (rest t e (read_terms (length bytes) k (drop p bytes) p) (rw (sub-one (suc k)) at d))
+    second : (t : Term) → size_term t 0 nodes ≡ fits counted.nodes → (bs : List ℕ) → bs ≡ drop counted.next bytes → Counts (λ ts. size_terms ts nodes) (read_on (read_terms (length bytes) (k - (i + 1)) bs counted.next) (λ ts. ok (t ∷ ts))) r
+    second t e bs l = rw l (rest t e (read_terms (length bytes) (k - (i + 1)) (drop counted.next bytes) counted.next) d)
 
-    first : (x : Read Term) → term_at bytes at ≡ x → Counts (λ t. size_term t 0 nodes) x (Nodes n p) → Counts (λ ts. size_terms ts nodes) (read_on x (λ t. read_terms (length bytes) k >>= λ ts. ok (t ∷ ts))) r
+    first : (x : Read Term) → term_at bytes at ≡ x → Counts (λ t. size_term t 0 nodes) x (Ok counted) → Counts (λ ts. size_terms ts nodes) (read_on x (λ t. read_terms (length bytes) (k - (i + 1)) >>= λ ts. ok (t ∷ ts))) r
     first (got t bs end) e c =
-        let q : (size_term t 0 nodes ≡ fits n) × (p ≡ end) = nodes_tell (size_term t 0 nodes) n p end c in
+        let q : (size_term t 0 nodes ≡ fits counted.nodes) × (counted.next ≡ end) = nodes_tell (size_term t 0 nodes) counted.nodes counted.next end c in
         rw (← q.1) (second t q.0 bs (rw q.1 (ends (goes_term (length bytes)) bytes at e).left))
     first (bad place) e c = absurd c
 
-pub terms_stop : (bytes : List ℕ) (k nodes at : ℕ) (r : Counted) → ((n p : ℕ) → r ≡ Nodes n p → ⊥) → 0 < k → Counts (λ t. size_term t 0 nodes) (term_at bytes at) r → Counts (λ ts. size_terms ts nodes) (terms_at k bytes at) r
+pub terms_stop : (bytes : List ℕ) (k nodes at : ℕ) (u : Uncounted) → 0 < k → Counts (λ t. size_term t 0 nodes) (term_at bytes at) (Err u) → Counts (λ ts. size_terms ts nodes) (terms_at k bytes at) (Err u)
 unfolding read_terms ◌>>=◌ read_on ok
-terms_stop bytes zero nodes at r q h c = absurd (let z : ⊥ = omega arith in z)
-terms_stop bytes (suc k) nodes at r q h c = first (term_at bytes at) c
+terms_stop bytes zero nodes at u h c = absurd (let z : ⊥ = omega arith in z)
+terms_stop bytes (suc k) nodes at u h c = first (term_at bytes at) c
   where
-    over : (s : Sized) (end end' : ℕ) (f : ℕ → Sized) → r ≡ counted s end → r ≡ counted (size_on s f) end'
-    over (fits n) end end' f e = absurd (q n end (unfold counted in e))
+    over : (s : Sized) (end end' : ℕ) (f : ℕ → Sized) → Err u ≡ counted s end → Err u ≡ counted (size_on s f) end'
+    over (fits n) end end' f e = absurd (unfold counted in let z : ◌≡◌ {A = ℕ} 0 1 = cc in omega arith)
     over scope_over end end' f e = unfold counted size_on in e
     over size_over end end' f e = unfold counted size_on in e
     over index_over end end' f e = unfold counted size_on in e
 
-    unread : (s : Sized) (end place : ℕ) → r ≡ counted s end → Faults place r
-    unread (fits n) end place e = absurd (q n end (unfold counted in e))
-    unread scope_over end place e = unfold counted in rw e tt
-    unread size_over end place e = unfold counted in rw e tt
-    unread index_over end place e = unfold counted in rw e tt
+    unread : (s : Sized) (end place : ℕ) → Err u ≡ counted s end → Faults place (Err u)
+    unread (fits n) end place e = absurd (unfold counted in let z : ◌≡◌ {A = ℕ} 0 1 = cc in omega arith)
+    unread scope_over end place e = unfold counted in let q : u ≡ Refused Refusal.scope = cc in rw q tt
+    unread size_over end place e = unfold counted in let q : u ≡ Refused Refusal.size = cc in rw q tt
+    unread index_over end place e = unfold counted in let q : u ≡ Refused Refusal.index = cc in rw q tt
 
-    rest : (t : Term) (end : ℕ) → r ≡ counted (size_term t 0 nodes) end → (x : Read (List Term)) → Counts (λ ts. size_terms ts nodes) (read_on x (λ ts. ok (t ∷ ts))) r
+    rest : (t : Term) (end : ℕ) → Err u ≡ counted (size_term t 0 nodes) end → (x : Read (List Term)) → Counts (λ ts. size_terms ts nodes) (read_on x (λ ts. ok (t ∷ ts))) (Err u)
     rest t end e (got ts bs end') = unfold size_terms in over (size_term t 0 nodes) end end' (size_terms ts) e
     rest t end e (bad place) = unread (size_term t 0 nodes) end place e
 
-    first : (x : Read Term) → Counts (λ t. size_term t 0 nodes) x r → Counts (λ ts. size_terms ts nodes) (read_on x (λ t. read_terms (length bytes) k >>= λ ts. ok (t ∷ ts))) r
+    first : (x : Read Term) → Counts (λ t. size_term t 0 nodes) x (Err u) → Counts (λ ts. size_terms ts nodes) (read_on x (λ t. read_terms (length bytes) k >>= λ ts. ok (t ∷ ts))) (Err u)
     first (got t bs end) c = rest t end c (read_terms (length bytes) k bs end)
     first (bad place) c = c
 
-pub terms_done : (bytes : List ℕ) (k nodes at : ℕ) → k ≤ 0 → Counts (λ ts. size_terms ts nodes) (terms_at k bytes at) (Nodes nodes at)
+pub terms_done : (bytes : List ℕ) (k nodes at : ℕ) → k ≤ 0 → Counts (λ ts. size_terms ts nodes) (terms_at k bytes at) (reached nodes at)
 unfolding read_terms ok size_terms counted
 terms_done bytes zero nodes at h = refl
 terms_done bytes (suc k) nodes at h = absurd (let z : ⊥ = omega arith in z)
@@ -92,19 +97,19 @@ abbrev made : Head → List Term → List Term → Call
 made head types terms = record { code = head.code; dims = head.dims; types = types; terms = terms }
 
 module _ (bytes : List ℕ) (at : ℕ) (head : Head) where
-  pub call_over : (ltb 33 head.dims || ltb 33 head.size) ≡ true → Counts size_call (call_of (length bytes) head (drop at bytes) at) (Refused Refusal.scope)
+  pub call_over : (ltb 33 head.dims || ltb 33 head.size) ≡ true → Counts size_call (call_of (length bytes) head (drop at bytes) at) (Err (Refused Refusal.scope))
   unfolding ◌>>=◌ read_on ok
   call_over t = first (terms_at head.size bytes at) refl
     where
-      second : (types : List Term) → length types ≡ head.size → (x : Read (List Term)) → Counts size_call (read_on x (λ terms. ok (made head types terms))) (Refused Refusal.scope)
+      second : (types : List Term) → length types ≡ head.size → (x : Read (List Term)) → Counts size_call (read_on x (λ terms. ok (made head types terms))) (Err (Refused Refusal.scope))
       second types l (got terms rest end) = rw (size_call_is (made head types terms) true (rw l t)) (unfold counted in refl)
       second types l (bad place) = tt
 
-      first : (x : Read (List Term)) → terms_at head.size bytes at ≡ x → Counts size_call (read_on x (λ types. read_terms (length bytes) (terms_of head.code) >>= λ terms. ok (made head types terms))) (Refused Refusal.scope)
+      first : (x : Read (List Term)) → terms_at head.size bytes at ≡ x → Counts size_call (read_on x (λ types. read_terms (length bytes) (terms_of head.code) >>= λ terms. ok (made head types terms))) (Err (Refused Refusal.scope))
       first (got types rest middle) e = second types (are_terms bytes head.size at e).many (read_terms (length bytes) (terms_of head.code) rest middle)
       first (bad place) e = tt
 
-  pub call_counts : (r : Counted) → (ltb 33 head.dims || ltb 33 head.size) ≡ false → Counts (λ ts. size_terms ts 0) (terms_after (length bytes) head (drop at bytes) at) r → Counts size_call (call_of (length bytes) head (drop at bytes) at) r
+  pub call_counts : (r : Count) → (ltb 33 head.dims || ltb 33 head.size) ≡ false → Counts (λ ts. size_terms ts 0) (terms_after (length bytes) head (drop at bytes) at) r → Counts size_call (call_of (length bytes) head (drop at bytes) at) r
   unfolding ◌>>=◌ read_on ok
   call_counts r t c = first (terms_at head.size bytes at) refl c
     where
@@ -126,42 +131,42 @@ module _ (bytes : List ℕ) (from : ℕ) (told : CallHead) (e : HeadAt bytes fro
   size_is : told.size ≡ head.size
   size_is = ap (λ (h : CallHead). h.size) (T bytes from told e).is
 
-  pub dims_over : 33 < told.dims → Counts size_call (call_at bytes from) (Refused Refusal.scope)
+  pub dims_over : 33 < told.dims → Counts size_call (call_at bytes from) (Err (Refused Refusal.scope))
   dims_over h =
       let l : 33 < head.dims = omega (arith, dims_is) in
       rw (call_here bytes from told e) (call_over bytes (from + 3) head (rw (lt-ltb 33 head.dims l)))
 
-  pub size_over_33 : told.dims ≤ 33 → 33 < told.size → Counts size_call (call_at bytes from) (Refused Refusal.scope)
+  pub size_over_33 : told.dims ≤ 33 → 33 < told.size → Counts size_call (call_at bytes from) (Err (Refused Refusal.scope))
   size_over_33 k h =
       let m : head.dims ≤ 33 = omega (arith, dims_is) in
       let l : 33 < head.size = omega (arith, size_is) in
       rw (call_here bytes from told e) (call_over bytes (from + 3) head (rw (le-ltb 33 head.dims m, lt-ltb 33 head.size l)))
 
-  pub within : (r : Counted) → told.dims ≤ 33 → told.size ≤ 33 → Counts (λ ts. size_terms ts 0) (terms_at (many_terms told) bytes (from + 3)) r → Counts size_call (call_at bytes from) r
+  pub within : (r : Count) → told.dims ≤ 33 → told.size ≤ 33 → Counts (λ ts. size_terms ts 0) (terms_at (many_terms told) bytes (from + 3)) r → Counts size_call (call_at bytes from) r
   within r k h c =
       let m : head.dims ≤ 33 = omega (arith, dims_is) in
       let l : head.size ≤ 33 = omega (arith, size_is) in
       rw (call_here bytes from told e) (call_counts bytes (from + 3) head r (rw (le-ltb 33 head.dims m, le-ltb 33 head.size l)) (rw (terms_here bytes from told e) at c))
 
   -- what `size_headed` tells
-  pub size_fits : (n end : ℕ) → Counts size_call (call_at bytes from) (Nodes n end) → Fits told n end ≡ size_of (call_at bytes from)
+  pub size_fits : (n end : ℕ) → Counts size_call (call_at bytes from) (reached n end) → fits_to told n end ≡ size_of (call_at bytes from)
   unfolding size_of sized
   size_fits n end c = go (call_at bytes from) refl c
     where
-      fit : (call : Call) (next : ℕ) → (size_call call ≡ fits n) × (end ≡ next) → told ≡ head_in call.code call.dims (length call.types) → Fits told n end ≡ sized (size_call call) call next
+      fit : (call : Call) (next : ℕ) → (size_call call ≡ fits n) × (end ≡ next) → told ≡ head_in call.code call.dims (length call.types) → fits_to told n end ≡ sized (size_call call) call next
       fit call next q same = rw (q.0, q.1, same)
 
-      go : (r : Read Call) → call_at bytes from ≡ r → Counts size_call r (Nodes n end) → Fits told n end ≡ size_of r
+      go : (r : Read Call) → call_at bytes from ≡ r → Counts size_call r (reached n end) → fits_to told n end ≡ size_of r
       go (got call rest next) q c =
-          let same : Is told ≡ Is (head_in call.code call.dims (length call.types)) = e ∙ head_here bytes from (call_is bytes from q) in
+          let same : Ok told ≡ Ok (head_in call.code call.dims (length call.types)) = e ∙ head_here bytes from (call_is bytes from q) in
           fit call next (nodes_tell (size_call call) n end next c) cc
       go (bad place) q c = absurd c
 
-pub size_bad : (r : Read Call) (p : ℕ) → Counts size_call r (Bad p) → NoCall p ≡ size_of r
+pub size_bad : (r : Read Call) (p : ℕ) → Counts size_call r (Err (Bad p)) → Err (NotRead (Faulty p)) ≡ size_of r
 unfolding size_of counted
 size_bad (got call rest next) p c = absurd (go (size_call call) c)
   where
-    go : (s : Sized) → Bad p ≡ counted s next → ⊥
+    go : (s : Sized) → Err (Bad p) ≡ counted s next → ⊥
     go (fits n) e = let z : ◌≡◌ {A = ℕ} 0 1 = cc in omega arith
     go scope_over e = let z : ◌≡◌ {A = ℕ} 0 1 = cc in omega arith
     go size_over e = let z : ◌≡◌ {A = ℕ} 0 1 = cc in omega arith
@@ -169,20 +174,33 @@ size_bad (got call rest next) p c = absurd (go (size_call call) c)
 size_bad (bad place) p c = rw c
 
 -- The end of a refused call is found over the same stack, whose length is what it was.
-pub size_refused : (bytes stack stack₀ : List ℕ) (r : Read Call) (number : ℕ) (next : Next) → length stack ≡ length stack₀ → 2 * length bytes + 1 ≤ length stack₀ → Counts size_call r (Refused number) → next ≡ next_in (short stack bytes) r → refused_size number next ≡ size_of r
-unfolding next_in next_of size_of refused_size
-size_refused bytes stack stack₀ r number next l h c e = go r c (e ∙ rw (le-ltb (length stack) (2 * length bytes + 1) (omega arith)))
-  where
-    told_as : (s : Sized) (call : Call) (end : ℕ) → Refused number ≡ counted s end → RefusedCall number end ≡ sized s call end
-    told_as (fits n) call end q = absurd (unfold counted in let z : ◌≡◌ {A = ℕ} 0 1 = cc in omega arith)
-    told_as scope_over call end q = unfold counted sized in let k : number ≡ Refusal.scope = cc in rw k
-    told_as size_over call end q = unfold counted sized in let k : number ≡ Refusal.size = cc in rw k
-    told_as index_over call end q = unfold counted sized in let k : number ≡ Refusal.index = cc in rw k
+module _ (bytes stack stack₀ : List ℕ) (r : Read Call) (number : ℕ) (l : length stack ≡ length stack₀) (h : 2 * length bytes + 1 ≤ length stack₀) (c : Counts size_call r (Err (Refused number))) where
+  next_is : {next : Result ℕ Unread} → next ≡ next_in (short stack bytes) r → next ≡ next_of r
+  unfolding next_in
+  next_is e = e ∙ rw (le-ltb (length stack) (2 * length bytes + 1) (omega arith))
 
-    go : (r : Read Call) → Counts size_call r (Refused number) → next ≡ next_of r → refused_size number next ≡ size_of r
-    go (got call rest end) c e = rw e (told_as (size_call call) call end c)
-    go (bad place) c e = rw e
+  pub size_refused : (end : ℕ) → Ok end ≡ next_in (short stack bytes) r → Err (Over number end) ≡ size_of r
+  unfolding next_of size_of
+  size_refused end e = go r c (next_is e)
+    where
+      told_as : (s : Sized) (call : Call) (end : ℕ) → Err (Refused number) ≡ counted s end → Err (Over number end) ≡ sized s call end
+      told_as (fits n) call end q = absurd (unfold counted in let z : ◌≡◌ {A = ℕ} 0 1 = cc in omega arith)
+      told_as scope_over call end q = unfold counted sized in let k : number ≡ Refusal.scope = cc in rw k
+      told_as size_over call end q = unfold counted sized in let k : number ≡ Refusal.size = cc in rw k
+      told_as index_over call end q = unfold counted sized in let k : number ≡ Refusal.index = cc in rw k
 
-pub size_none : (bytes : List ℕ) (from place : ℕ) → NoHead place ≡ head_of (read_head (drop from bytes) from) → NoCall place ≡ size_of (call_at bytes from)
+      go : (r : Read Call) → Counts size_call r (Err (Refused number)) → Ok end ≡ next_of r → Err (Over number end) ≡ size_of r
+      go (got call rest end') c e = let q : end ≡ end' = cc in rw q (told_as (size_call call) call end' c)
+      go (bad place) c e = absurd (let z : ◌≡◌ {A = ℕ} 0 1 = cc in omega arith)
+
+  pub size_unread : (u : Unread) → Err u ≡ next_in (short stack bytes) r → Err (NotRead u) ≡ size_of r
+  unfolding next_of size_of
+  size_unread u e = go r (next_is e)
+    where
+      go : (r : Read Call) → Err u ≡ next_of r → Err (NotRead u) ≡ size_of r
+      go (got call rest end) e = absurd (let z : ◌≡◌ {A = ℕ} 0 1 = cc in omega arith)
+      go (bad place) e = let q : u ≡ Faulty place = cc in rw q
+
+pub size_none : (bytes : List ℕ) (from : ℕ) (fault : Fault) → Err fault ≡ head_of (read_head (drop from bytes) from) → Err (NotRead (unread_at fault)) ≡ size_of (call_at bytes from)
 unfolding size_of read_call ◌>>=◌ read_on
-size_none bytes from place e = rw (tells_bad place (read_head (drop from bytes) from) e)
+size_none bytes from fault e = rw (tells_bad fault (read_head (drop from bytes) from) e)

@@ -1,4 +1,5 @@
 -- What the proofs of several functions use.
+mod Bytes
 mod Over
 mod Stack
 mod Terms

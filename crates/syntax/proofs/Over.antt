@@ -9,23 +9,24 @@ use Rattle.walk.specs.Syntax.{Term}
 use Rattle.walk.specs.Reader.{Read, got, bad, Reader, read_on, ◌>>=◌, ok, byte, meant, one_of, k_u, k_v, k_nat, k_zero, k_pi, k_lam, k_app, k_path, k_plam, k_papp, k_sigma, k_pair, k_fst, k_snd, k_0, k_1, k_dim, k_neg, k_meet, k_join, kinds, ikinds, read_interval, read_term}
 use Rattle.syntax.specs.Parts.{Part, index, term, interval, parts, iparts, of_kind, after}
 use Rattle.syntax.specs.Told.{next_of}
-use Rattle.syntax.specs.declared.scan.Next.{Next}
-use Rattle.syntax.specs.declared.scan.Next.TheVariants.{Past, Bad}
+use Rattle.syntax.specs.declared.scan.Unread.{Unread}
+use Rattle.std.specs.Prelude.{Result, Ok, Err}
+use Rattle.syntax.specs.declared.scan.Unread.TheVariants.{Bad}
 
-unfoldable pub opened : Option (List Part) → ℕ → (List Part → Next) → Next
-opened none at f = Bad at
+unfoldable pub opened : Option (List Part) → ℕ → (List Part → Result ℕ Unread) → Result ℕ Unread
+opened none at f = Err (Bad at)
 opened (some new) at f = f new
 
 -- Reads all the parts, the first of them first.
-unfoldable pub over : List ℕ → List Part → ℕ → Next
-over [] [] at = Past at
-over [] (p ∷ ps) at = Bad at
-over (b ∷ bs) [] at = Past at
+unfoldable pub over : List ℕ → List Part → ℕ → Result ℕ Unread
+over [] [] at = Ok at
+over [] (p ∷ ps) at = Err (Bad at)
+over (b ∷ bs) [] at = Ok at
 over (b ∷ bs) (p ∷ ps) at = opened (after p b) at (λ new. over bs (new ++ ps) (at + 1))
 
-unfoldable then_over : {A : Type 0} → Read A → List Part → Next
+unfoldable then_over : {A : Type 0} → Read A → List Part → Result ℕ Unread
 then_over (got a bs at) ps = over bs ps at
-then_over (bad place) ps = Bad place
+then_over (bad place) ps = Err (Bad place)
 
 abbrev Within : {A : Type 0} → ℕ → Read A → Type 0
 Within n (got a bs at) = length bs ≤ n

@@ -1,16 +1,18 @@
 -- The stack of parts as it lies in a slice, and a turn of the scan's loop over it.
-use Prim.Native.Nat.{ℕ, zero, suc, ◌+◌, ◌-◌, ◌≤◌, ◌<◌}
+use Prim.Native.Nat.{ℕ, zero, suc, ◌+◌, ◌-◌, ◌*◌, ◌≤◌, ◌<◌}
 use mathlib.Core.Path.{◌≡◌, refl, ap, ◌∙◌}
-use mathlib.Core.List.{List, [], ◌∷◌, ◌++◌}
+use mathlib.Core.List.{List, [], ◌∷◌, ◌++◌, append_assoc}
 use mathlib.Core.Option.{none, some}
 use native.Mathlib.Omega.{arith}
-use native.Mathlib.Nat.{add-zero}
-use native.Mathlib.Numerals.{add-one, add-two, add-three, sub-one}
+use native.Mathlib.Nat.{add-zero, add-suc}
+use native.Mathlib.Numerals.{add-one, sub-one}
 use lib.ListN.{length, get_or, set, length-set, drop, drop_of_length-le}
 use lib.Seq.{get_or-set_same, get_or-set_other, drop-cons}
-use Rattle.syntax.specs.Parts.{after, part, so_many, Lists, pushed}
-use Rattle.syntax.specs.declared.parts.Parts.{Parts}
-use Rattle.syntax.specs.declared.scan.Next.TheVariants.{Past, Bad}
+use Rattle.std.specs.Prelude.{map}
+use Rattle.std.proofs.Common.{length-append}
+use Rattle.syntax.specs.Parts.{Part, index, term, interval, after, part, word, pushed}
+use Rattle.std.specs.Prelude.{Ok, Err}
+use Rattle.syntax.specs.declared.scan.Unread.TheVariants.{Bad}
 use Rattle.syntax.proofs.Over.{opened, over}
 
 -- The first so many words, the last of them first, each as what it stands for.
@@ -29,81 +31,60 @@ module _ {X : Type 0} (means : ℕ → X) where
   piled_top words zero p = absurd (let z : ⊥ = omega arith in z)
   piled_top words (suc n) p = rw (sub-one (suc n))
 
-  -- Three words are written, and as many of them count as there are parts.
-  push_at : (words : List ℕ) (top n low mid high : ℕ) (new : List X) → suc (suc top) < length words → so_many n (means low) (means mid) (means high) ≡ some new → piled means (set (set (set words top low) (suc top) mid) (suc (suc top)) high) (top + n) ≡ new ++ piled means words top
-  unfolding piled so_many
-  push_at words top n low mid high new h = go n
-    where
-      one : List ℕ
-      one = set words top low
+length-pushed : (words : List ℕ) (top depth : ℕ) (ps : List Part) → length (pushed words top depth ps) ≡ length words
+length-pushed words top depth [] = refl
+length-pushed words top depth (p ∷ ps) = length-set (pushed words top depth ps) (top + length ps) (word p + 3 * depth) ∙ length-pushed words top depth ps
 
-      two : List ℕ
-      two = set one (suc top) mid
+-- What is pushed lies on top, each word as what it stands for.
+pub piled_pushed : {X : Type 0} (means : ℕ → X) (what : Part → X) (words : List ℕ) (top depth : ℕ) (ps : List Part) → ((p : Part) → means (word p + 3 * depth) ≡ what p) → top + length ps ≤ length words → piled means (pushed words top depth ps) (top + length ps) ≡ map what ps ++ piled means words top
+unfolding piled
+piled_pushed means what words top depth [] each h = rw (add-zero top) refl
+piled_pushed means what words top depth (p ∷ ps) each h =
+    let inside : top + length ps < length (pushed words top depth ps) = omega (arith, length-pushed words top depth ps) in
+    rw (add-suc top (length ps), get_or-set_same (pushed words top depth ps) (top + length ps) (word p + 3 * depth) 0 inside, piled_set means (pushed words top depth ps) (top + length ps) (top + length ps) (word p + 3 * depth) (omega arith), each p, piled_pushed means what words top depth ps each (omega arith)) refl
 
-      all : List ℕ
-      all = set two (suc (suc top)) high
+-- The word of a part at no depth is that part.
+pub part_word : (p : Part) → part (word p + 3 * 0) ≡ p
+unfolding part
+part_word index = refl
+part_word term = refl
+part_word interval = refl
 
-      first : get_or all top 0 ≡ low
-      first = get_or-set_other two (suc (suc top)) top high 0 (λ e. omega arith) ∙ get_or-set_other one (suc top) top mid 0 (λ e. omega arith) ∙ get_or-set_same words top low 0 (omega arith)
+pub map_same : (ps : List Part) → map (λ p. p) ps ≡ ps
+map_same [] = refl
+map_same (p ∷ ps) = ap (λ (l : List Part). p ∷ l) (map_same ps)
 
-      second : get_or all (suc top) 0 ≡ mid
-      second = get_or-set_other two (suc (suc top)) (suc top) high 0 (λ e. omega arith) ∙ get_or-set_same one (suc top) mid 0 (simp length-set (omega arith))
+pub all_left : (ps : List Part) → ps ≡ ps ++ []
+all_left [] = refl
+all_left (p ∷ ps) = ap (λ (l : List Part). p ∷ l) (all_left ps)
 
-      third : get_or all (suc (suc top)) 0 ≡ high
-      third = get_or-set_same two (suc (suc top)) high 0 (simp length-set (omega arith))
+-- What is left of the parts, and what of them was pushed.
+pub one_less : (parts rest less done : List Part) (p : Part) → parts ≡ rest ++ done → rest ≡ less ++ p ∷ [] → (parts ≡ less ++ p ∷ done) × (length done < length parts)
+one_less parts rest less done p a b =
+    let same : parts ≡ less ++ p ∷ done = a ∙ ap (λ (l : List Part). l ++ done) b ∙ append_assoc less (p ∷ []) done in
+    (same, omega (arith, ap length same, length-append less (p ∷ done)))
 
-      below : piled means all top ≡ piled means words top
-      below = piled_set two top (suc (suc top)) high (omega arith) ∙ piled_set one top (suc top) mid (omega arith) ∙ piled_set words top top low (omega arith)
-
-      same : (new' : List X) → some new' ≡ some new → new' ++ piled means words top ≡ new ++ piled means words top
-      same l e = ap (λ (x : List X). x ++ piled means words top) (let q : l ≡ new = cc in q)
-
-      go : (n : ℕ) → so_many n (means low) (means mid) (means high) ≡ some new → piled means all (top + n) ≡ new ++ piled means words top
-      go zero e = rw (add-zero top) (below ∙ same _ e)
-      go (suc zero) e = rw (add-one top, first, below) (same _ e)
-      go (suc (suc zero)) e = rw (add-two top, first, second, below) (same _ e)
-      go (suc (suc (suc zero))) e = rw (add-three top, first, second, third, below) (same _ e)
-      go (suc (suc (suc (suc n)))) e = absurd (let z : ◌≡◌ {A = ℕ} 0 1 = cc in omega arith)
-
-  pub piled_push : (words : List ℕ) (top : ℕ) (p : Parts) (new : List X) → top + 2 < length words → so_many p.n (means p.low) (means p.mid) (means p.top) ≡ some new → piled means (pushed words top p) (top + p.n) ≡ new ++ piled means words top
-  piled_push words top p new h e = rw (add-one top, add-two top) (push_at words top p.n p.low p.mid p.top new (omega arith) e)
-
-module _ {X : Type 0} where
-  pub over_three : (n : ℕ) (low mid top : X) → 3 < n → so_many n low mid top ≡ none
-  unfolding so_many
-  over_three zero low mid top h = absurd (let z : ⊥ = omega arith in z)
-  over_three (suc zero) low mid top h = absurd (let z : ⊥ = omega arith in z)
-  over_three (suc (suc zero)) low mid top h = absurd (let z : ⊥ = omega arith in z)
-  over_three (suc (suc (suc zero))) low mid top h = absurd (let z : ⊥ = omega arith in z)
-  over_three (suc (suc (suc (suc n)))) low mid top h = refl
-
-  pub up_to_three : (n : ℕ) (low mid top : X) → n ≤ 3 → (new : List X) × (so_many n low mid top ≡ some new)
-  unfolding so_many
-  up_to_three zero low mid top h = (_, refl)
-  up_to_three (suc zero) low mid top h = (_, refl)
-  up_to_three (suc (suc zero)) low mid top h = (_, refl)
-  up_to_three (suc (suc (suc zero))) low mid top h = (_, refl)
-  up_to_three (suc (suc (suc (suc n)))) low mid top h = absurd (let z : ⊥ = omega arith in z)
+pub none_left : (parts rest done : List Part) → parts ≡ rest ++ done → length rest ≡ 0 → parts ≡ done
+none_left parts [] done a b = a
+none_left parts (p ∷ ps) done a b = absurd (let z : ⊥ = omega arith in z)
 
 -- A turn: nothing is left to be read; the run ends; the byte may not stand here; it may.
-pub turn_done : (bs words : List ℕ) (at d : ℕ) → d ≤ 0 → over bs (piled part words d) at ≡ Past at
+pub turn_done : (bs words : List ℕ) (at d : ℕ) → d ≤ 0 → over bs (piled part words d) at ≡ Ok at
 unfolding piled over
 turn_done [] words at zero h = refl
 turn_done (b ∷ bs) words at zero h = refl
 turn_done bs words at (suc d) h = absurd (let z : ⊥ = omega arith in z)
 
 module _ (bytes words : List ℕ) (at d : ℕ) (h : 0 < d) where
-  pub turn_end : length bytes ≤ at → over (drop at bytes) (piled part words d) at ≡ Bad at
+  pub turn_end : length bytes ≤ at → over (drop at bytes) (piled part words d) at ≡ Err (Bad at)
   unfolding over
   turn_end l = rw (drop_of_length-le bytes l, piled_top part words d h)
 
-  module _ (l : at < length bytes) (p : Parts) (e : Lists (after (part (get_or words (d - 1) 0)) (get_or bytes at 0)) p) where
-    pub turn_bad : 3 < p.n → over (drop at bytes) (piled part words d) at ≡ Bad at
+  module _ (l : at < length bytes) where
+    pub turn_bad : after (part (get_or words (d - 1) 0)) (get_or bytes at 0) ≡ none → over (drop at bytes) (piled part words d) at ≡ Err (Bad at)
     unfolding over opened
-    turn_bad k = rw (drop-cons bytes at 0 l, piled_top part words d h, ← e.same, over_three p.n (part p.low) (part p.mid) (part p.top) k)
+    turn_bad e = rw (drop-cons bytes at 0 l, piled_top part words d h, e)
 
-    pub turn : (d - 1) + 2 < length words → p.n ≤ 3 → over (drop at bytes) (piled part words d) at ≡ over (drop (at + 1) bytes) (piled part (pushed words (d - 1) p) ((d - 1) + p.n)) (at + 1)
+    pub turn : (new : List Part) → after (part (get_or words (d - 1) 0)) (get_or bytes at 0) ≡ some new → (d - 1) + length new ≤ length words → over (drop at bytes) (piled part words d) at ≡ over (drop (at + 1) bytes) (piled part (pushed words (d - 1) 0 new) ((d - 1) + length new)) (at + 1)
     unfolding over opened
-    turn r k =
-        let u = up_to_three p.n (part p.low) (part p.mid) (part p.top) k in
-        rw (piled_push part words (d - 1) p u.0 r u.1, drop-cons bytes at 0 l, piled_top part words d h, ← e.same, u.1, add-one at)
+    turn new e r = rw (piled_pushed part (λ p. p) words (d - 1) 0 new part_word r, map_same new, drop-cons bytes at 0 l, piled_top part words d h, e, add-one at)

@@ -5,26 +5,25 @@ use mathlib.Core.List.{List, ◌∷◌, ◌++◌}
 use mathlib.Core.Bool.{Bool, true, false}
 use native.Mathlib.Omega.{arith}
 use native.Mathlib.Nat.{zero-add, suc-add}
-use native.Mathlib.Numerals.{sub-one}
 use lib.ListN.{length, drop}
 use Rattle.walk.specs.Syntax.{Term}
-use Rattle.walk.specs.Reader.{Read, got, bad, read_on, ◌>>=◌, ok, terms_of, Head, Call, read_term, read_terms, read_head, read_call}
-use Rattle.syntax.specs.Told.{term_at, terms_at, call_at, next_of, next_in, head_of, HeadAt, many_terms}
-use Rattle.syntax.specs.Heads.{Headed, headed, Tells, tells, tells_bad, terms_in_code}
+use Rattle.walk.specs.Reader.{Read, got, bad, read_on, ◌>>=◌, ok, Code, terms_of, Head, Call, read_term, read_terms, read_head, read_call}
+use Rattle.syntax.specs.Told.{term_at, terms_at, call_at, unread_at, next_of, next_in, head_of, HeadAt, many_terms}
+use Rattle.syntax.specs.Heads.{Headed, headed, Tells, tells, tells_bad, code_again}
 use Rattle.syntax.specs.declared.scan.CallHead.{CallHead}
-use Rattle.syntax.specs.declared.scan.Heading.TheVariants.{Bad as HeadingBad}
+use Rattle.syntax.specs.declared.scan.Fault.{Fault}
 use Rattle.syntax.specs.Ends.{ends, goes_term}
-use Rattle.syntax.specs.declared.scan.Next.{Next}
-use Rattle.syntax.specs.declared.scan.Next.TheVariants.{Past, Bad}
+use Rattle.std.specs.Prelude.{Ok, Err}
+use Rattle.syntax.specs.declared.scan.Unread.{Unread}
 
 -- What an end tells of what was read.
-pub past : {A : Type 0} (t : Bool) (r : Read A) (p : ℕ) → Past p ≡ next_in t r → (a : A) × (rest : List ℕ) × (r ≡ got a rest p)
+pub past : {A : Type 0} (t : Bool) (r : Read A) (p : ℕ) → Ok p ≡ next_in t r → (a : A) × (rest : List ℕ) × (r ≡ got a rest p)
 unfolding next_in next_of
 past true r p e = absurd (let z : ◌≡◌ {A = ℕ} 0 1 = cc in omega arith)
 past false (got a rest at) p e = let q : p ≡ at = cc in rw q (a, rest, refl)
 past false (bad place) p e = absurd (let z : ◌≡◌ {A = ℕ} 0 1 = cc in omega arith)
 
-pub past_term : (t : Bool) (bytes : List ℕ) (at p : ℕ) → Past p ≡ next_in t (term_at bytes at) → (a : Term) × (term_at bytes at ≡ got a (drop p bytes) p)
+pub past_term : (t : Bool) (bytes : List ℕ) (at p : ℕ) → Ok p ≡ next_in t (term_at bytes at) → (a : Term) × (term_at bytes at ≡ got a (drop p bytes) p)
 past_term t bytes at p e = go (past t (term_at bytes at) p e)
   where
     go : (a : Term) × (rest : List ℕ) × (term_at bytes at ≡ got a rest p) → (a : Term) × (term_at bytes at ≡ got a (drop p bytes) p)
@@ -40,23 +39,24 @@ unfolding next_in
 same_in true r r' e = refl
 same_in false r r' e = e
 
--- one turn
-pub terms_on : (t : Bool) (bytes : List ℕ) (n at p : ℕ) → 0 < n → Past p ≡ next_in t (term_at bytes at) → next_of (terms_at n bytes at) ≡ next_of (terms_at (n - 1) bytes p)
+-- one turn, after so many
+pub terms_on : (t : Bool) (bytes : List ℕ) (n i at p : ℕ) → i < n → Ok p ≡ next_in t (term_at bytes at) → next_of (terms_at (n - i) bytes at) ≡ next_of (terms_at (n - (i + 1)) bytes p)
 unfolding read_terms ◌>>=◌ read_on
-terms_on t bytes zero at p h e = absurd (let z : ⊥ = omega arith in z)
-terms_on t bytes (suc n) at p h e = rw (sub-one (suc n), (past_term t bytes at p e).1) (next_map _ (read_terms (length bytes) n (drop p bytes) p))
+terms_on t bytes n i at p h e =
+    let left : n - i ≡ suc (n - (i + 1)) = omega arith in
+    rw (left, (past_term t bytes at p e).1) (next_map _ (read_terms (length bytes) (n - (i + 1)) (drop p bytes) p))
 
-pub terms_stop : (t : Bool) (bytes : List ℕ) (n at : ℕ) (r : Next) → ((p : ℕ) → r ≡ Past p → ⊥) → 0 < n → r ≡ next_in t (term_at bytes at) → r ≡ next_in t (terms_at n bytes at)
+pub terms_stop : (t : Bool) (bytes : List ℕ) (n at : ℕ) (u : Unread) → 0 < n → Err u ≡ next_in t (term_at bytes at) → Err u ≡ next_in t (terms_at n bytes at)
 unfolding read_terms ◌>>=◌
-terms_stop t bytes zero at r q h e = absurd (let z : ⊥ = omega arith in z)
-terms_stop t bytes (suc n) at r q h e = go t (term_at bytes at) e
+terms_stop t bytes zero at u h e = absurd (let z : ⊥ = omega arith in z)
+terms_stop t bytes (suc n) at u h e = go t (term_at bytes at) e
   where
-    go : (t : Bool) (x : Read Term) → r ≡ next_in t x → r ≡ next_in t (read_on x (λ a. read_terms (length bytes) n >>= λ as'. ok (a ∷ as')))
+    go : (t : Bool) (x : Read Term) → Err u ≡ next_in t x → Err u ≡ next_in t (read_on x (λ a. read_terms (length bytes) n >>= λ as'. ok (a ∷ as')))
     go true x e = unfold next_in in e
-    go false (got a rest p) e = absurd (q p (unfold next_in next_of in e))
+    go false (got a rest p) e = absurd (unfold next_in next_of in let z : ◌≡◌ {A = ℕ} 0 1 = cc in omega arith)
     go false (bad place) e = unfold next_in next_of read_on in e
 
-pub terms_done : (bytes : List ℕ) (n at : ℕ) → n ≤ 0 → next_of (terms_at n bytes at) ≡ Past at
+pub terms_done : (bytes : List ℕ) (n at : ℕ) → n ≤ 0 → next_of (terms_at n bytes at) ≡ Ok at
 unfolding read_terms ok next_of
 terms_done bytes zero at h = refl
 terms_done bytes (suc n) at h = absurd (let z : ⊥ = omega arith in z)
@@ -98,9 +98,9 @@ next_same f head bs at = go (read_terms f head.size bs at)
     go (got types rest at') = next_map _ (read_terms f (terms_of head.code) rest at') ∙ sym (next_map _ (read_terms f (terms_of head.code) rest at'))
     go (bad place) = unfold next_of in refl
 
-pub call_no_head : (bytes : List ℕ) (from place : ℕ) → HeadingBad place ≡ head_of (read_head (drop from bytes) from) → next_of (call_at bytes from) ≡ Bad place
+pub call_no_head : (bytes : List ℕ) (from : ℕ) (fault : Fault) → Err fault ≡ head_of (read_head (drop from bytes) from) → next_of (call_at bytes from) ≡ Err (unread_at fault)
 unfolding read_call ◌>>=◌ read_on next_of
-call_no_head bytes from place e = rw (tells_bad place (read_head (drop from bytes) from) e)
+call_no_head bytes from fault e = rw (tells_bad fault (read_head (drop from bytes) from) e)
 
 call_head : (bytes : List ℕ) (from at : ℕ) {head : Head} {rest : List ℕ} {end : ℕ} → read_head (drop from bytes) from ≡ got head rest end → rest ≡ drop at bytes → end ≡ at → call_at bytes from ≡ call_of (length bytes) head (drop at bytes) at
 unfolding read_call ◌>>=◌ read_on
@@ -115,7 +115,7 @@ module _ (bytes : List ℕ) (from : ℕ) (told : CallHead) (e : HeadAt bytes fro
   H = headed bytes from T.reads
 
   count : many_terms told ≡ T.head.size + terms_of T.head.code
-  count = ap many_terms T.is ∙ ap (λ (n : ℕ). T.head.size + n) (terms_in_code T.head.code)
+  count = ap many_terms T.is ∙ ap (λ (c : Code). T.head.size + terms_of c) (code_again T.head.code)
 
   pub inside : from + 3 ≤ length bytes
   inside = H.inside

@@ -1,7 +1,7 @@
 -- The calls of a run that is read, and the terms of a call, one after the other by their offsets.
 use Prim.Native.Nat.{ℕ, zero, suc, ◌+◌, ◌*◌, ◌≤◌, ◌<◌}
 use Rattle.std.proofs.Math.Path.{◌≡◌, sym}
-use Rattle.std.specs.Prelude.{refl, Bool, true, false, ◌&&◌, ◌||◌, ltb, leb, get_or, drop}
+use Rattle.std.specs.Prelude.{refl, Bool, true, false, ◌&&◌, ◌||◌, ltb, leb, get_or, drop, Ok}
 use Rattle.std.proofs.Common.{ap, ◌∙◌, leb-true, ltb-false, drop_of_length-le, drop-cons}
 use mathlib.Core.List.{List, [], ◌∷◌, ◌++◌}
 use Rattle.std.proofs.Math.Option.{none, some}
@@ -11,7 +11,6 @@ use Rattle.std.proofs.Math.ListN.{length}
 use Rattle.walk.specs.Syntax.{Term}
 use Rattle.walk.specs.Reader.{Read, got, bad, read_on, ◌>>=◌, ok, codes, terms_of, Head, Call, read_terms, read_head, read_call, read_calls, read_limit, read_run}
 use Rattle.walk.specs.Limits.{Sized, fits, scope_over, size_over, index_over, size_on, size_term, size_terms, size_call}
-use Rattle.syntax.specs.declared.scan.Heading.TheVariants.{Is}
 use Rattle.syntax.specs.Told.{term_at, terms_at, call_at, head_in, head_of}
 use Rattle.syntax.specs.Ends.{Stops, ends, goes_term, goes_call}
 use Rattle.syntax.specs.Heads.{head_is, Headed, headed}
@@ -126,7 +125,7 @@ call_is bytes at {call} {rest} {next} e = at_head (twice (read_head (drop at byt
         at_types w.first (rw (← H.left, ← H.stop) H) (twice _ (λ types. read_terms (length bytes) (terms_of w.first.code) >>= λ terms. ok (made w.first types terms)) (rw (← H.left, ← H.stop) w.two))
 
 -- What is read of a call's head.
-pub call_head : (bytes : List ℕ) (at : ℕ) {call : Call} {next : ℕ} → CallAt bytes at call next → head_of (read_head (drop at bytes) at) ≡ Is (head_in call.code call.dims (length call.types))
+pub call_head : (bytes : List ℕ) (at : ℕ) {call : Call} {next : ℕ} → CallAt bytes at call next → head_of (read_head (drop at bytes) at) ≡ Ok (head_in call.code call.dims (length call.types))
 unfolding head_of
 call_head bytes at {call} {next} C =
     let two : at + 1 + 1 ≡ at + 2 = omega arith in

@@ -1,6 +1,6 @@
 -- A call's head: its first three bytes.
 use Prim.Native.Nat.{ℕ, zero, suc, ◌+◌, ◌≤◌, ◌<◌}
-use Rattle.std.specs.Prelude.{◌≡◌, refl, List, length, get_or, drop}
+use Rattle.std.specs.Prelude.{◌≡◌, refl, List, length, get_or, drop, Ok, Err}
 use Rattle.std.proofs.Common.{sym, ap, ◌∙◌, arith}
 use Rattle.std.proofs.Math.Option.{Option, none, some}
 use Rattle.std.proofs.Math.Numerals.{add-one}
@@ -8,10 +8,10 @@ use Rattle.std.proofs.Math.Decide.{dec_lt}
 use Rattle.std.proofs.Math.ListN.{drop_of_length-le, get_or-eq_default}
 use Rattle.std.proofs.Math.Seq.{drop-cons}
 use Rattle.walk.specs.Reader.{Read, got, bad, read_on, ◌>>=◌, ok, byte, meant, one_of, Code, c_context, c_universe, c_infer, c_check, c_normalise, c_equal, codes, terms_of, Head, read_head}
-use Rattle.syntax.specs.Told.{code_number, highest_code, head_in, head_of, terms_in}
+use Rattle.syntax.specs.Told.{code_number, highest_code, fault_at, code_told, code_of, head_in, head_of, terms_in}
 use Rattle.syntax.specs.Ends.{Stops, ends, goes_head}
+use Rattle.syntax.specs.declared.scan.Fault.{Fault}
 use Rattle.syntax.specs.declared.scan.CallHead.{CallHead}
-use Rattle.syntax.specs.declared.scan.Heading.TheVariants.{Is, Bad}
 
 pub record IsCode (b : ℕ) : Type 0 where
   pub code : Code
@@ -38,6 +38,10 @@ module _ (bytes : List ℕ) (from : ℕ) where
   pub head_no_code : from < length bytes → highest_code < get_or bytes from 0 → read_head (drop from bytes) from ≡ bad from
   unfolding read_head ◌>>=◌ read_on one_of meant
   head_no_code h k = rw (drop-cons bytes from 0 h, get_or-eq_default codes none k)
+
+  pub head_not_code : from < length bytes → get_or codes (get_or bytes from 0) none ≡ none → read_head (drop from bytes) from ≡ bad from
+  unfolding read_head ◌>>=◌ read_on one_of meant
+  head_not_code h e = rw (drop-cons bytes from 0 h, e)
 
   module _ (c : Code) (e : get_or codes (get_or bytes from 0) none ≡ some c) where
     pub head_no_dims : from < length bytes → length bytes ≤ from + 1 → read_head (drop from bytes) from ≡ bad (from + 1)
@@ -100,15 +104,15 @@ pub record Tells (told : CallHead) (r : Read Head) : Type 0 where
   pub reads : r ≡ got head rest end
   pub is : told ≡ head_in head.code head.dims head.size
 
-pub tells : (told : CallHead) (r : Read Head) → Is told ≡ head_of r → Tells told r
+pub tells : (told : CallHead) (r : Read Head) → Ok told ≡ head_of r → Tells told r
 unfolding head_of
 tells told (got head rest end) e = record { head = head; rest = rest; end = end; reads = refl; is = cc }
 tells told (bad place) e = absurd (let z : ◌≡◌ {A = ℕ} 0 1 = cc in omega arith)
 
-pub tells_bad : (place : ℕ) (r : Read Head) → Bad place ≡ head_of r → r ≡ bad place
+pub tells_bad : (fault : Fault) (r : Read Head) → Err fault ≡ head_of r → r ≡ bad fault.place
 unfolding head_of
-tells_bad place (got head rest end) e = absurd (let z : ◌≡◌ {A = ℕ} 0 1 = cc in omega arith)
-tells_bad place (bad p) e = let q : place ≡ p = cc in rw q
+tells_bad fault (got head rest end) e = absurd (let z : ◌≡◌ {A = ℕ} 0 1 = cc in omega arith)
+tells_bad fault (bad p) e = let q : fault ≡ fault_at p = cc in rw q
 
 pub terms_in_code : (c : Code) → terms_in (get_or codes (code_number c) none) ≡ terms_of c
 unfolding terms_in
@@ -121,6 +125,18 @@ terms_in_code c_normalise = refl
 terms_in_code c_equal = refl
 
 -- end of terms by code
+
+-- What the program tells of a code is that code.
+pub code_again : (c : Code) → code_of (code_told c) ≡ c
+-- written by tools/written.py: codes again
+code_again c_context = refl
+code_again c_universe = refl
+code_again c_infer = refl
+code_again c_check = refl
+code_again c_normalise = refl
+code_again c_equal = refl
+
+-- end of codes again
 
 pub few_terms : (c : Option Code) → terms_in c ≤ 3
 unfolding terms_in

@@ -1,21 +1,21 @@
 -- What each public function answers, by the definitions of `walk`.
-use Rattle.std.specs.Prelude.{ℕ, ◌+◌, ◌*◌, ◌≡◌, List, Bool, true, false, ltb, length, get_or, drop}
+use Rattle.std.specs.Prelude.{ℕ, ◌+◌, ◌*◌, ◌≡◌, List, Bool, true, false, ltb, length, drop, Option as Maybe, Some, None, Result, Ok, Err}
 use Rattle.std.proofs.Math.Option.{Option, none, some}
 use Rattle.walk.specs.Refusal as Refusal
 use Rattle.walk.specs.Syntax.{Term}
-use Rattle.walk.specs.Reader.{Read, got, bad, Code, c_context, c_universe, c_infer, c_check, c_normalise, c_equal, codes, terms_of, Head, Call, read_term, read_terms, read_head, read_call, read_run}
+use Rattle.walk.specs.Reader.{Read, got, bad, Code, c_context, c_universe, c_infer, c_check, c_normalise, c_equal, terms_of, Head, Call, read_term, read_terms, read_head, read_call, read_run}
 use Rattle.walk.specs.Limits.{Sized, fits, scope_over, size_over, index_over, size_call}
-use Rattle.syntax.specs.declared.scan.Next.{Next}
-use Rattle.syntax.specs.declared.scan.Next.TheVariants.{Past, Bad, Short}
+use Rattle.syntax.specs.declared.scan.Fault.{Fault}
+use Rattle.syntax.specs.declared.scan.Unread.{Unread}
+use Rattle.syntax.specs.declared.scan.Unread.TheVariants.{Bad, Short}
+use Rattle.syntax.specs.declared.calls.Code.{Code as CallCode}
+use Rattle.syntax.specs.declared.calls.Code.TheVariants.{Context, Universe, Infer, Check, Normalise, Equal}
 use Rattle.syntax.specs.declared.scan.CallHead.{CallHead}
-use Rattle.syntax.specs.declared.scan.Heading.{Heading}
-use Rattle.syntax.specs.declared.scan.Heading.TheVariants.{Is, Bad as NoHead}
-use Rattle.syntax.specs.declared.scan.Limit.{Limit}
-use Rattle.syntax.specs.declared.scan.Limit.TheVariants.{Is as IsLimit, Bad as NoLimit}
 use Rattle.syntax.specs.declared.scan.Scanned.{Scanned}
-use Rattle.syntax.specs.declared.scan.Scanned.TheVariants.{Calls, Refused as RefusedRun}
-use Rattle.syntax.specs.declared.limits.Size.{Size}
-use Rattle.syntax.specs.declared.limits.Size.TheVariants.{Fits, Refused, Bad as NoCall, Short as NoRoom}
+use Rattle.syntax.specs.declared.scan.Refusal.{Refusal as Refused}
+use Rattle.syntax.specs.declared.limits.Fitting.{Fitting}
+use Rattle.syntax.specs.declared.limits.Unfit.{Unfit}
+use Rattle.syntax.specs.declared.limits.Unfit.TheVariants.{Refused as Over, Unread as NotRead}
 
 -- What stands at an offset of a run; as many as its bytes bound the depth.
 abbrev pub term_at : List ℕ → ℕ → Read Term
@@ -33,13 +33,25 @@ short stack bytes = ltb (length stack) (2 * length bytes + 1)
 
 -- the offset past what is read, or the place of the fault
 
-unfoldable pub next_of : {A : Type 0} → Read A → Next
-next_of (got a rest at) = Past at
-next_of (bad place) = Bad place
+abbrev pub fault_at : ℕ → Fault
+fault_at place = record { place = place }
 
-unfoldable pub next_in : {A : Type 0} → Bool → Read A → Next
-next_in true r = Short
+-- A fault is why nothing more is read.
+abbrev pub unread_at : Fault → Unread
+unread_at fault = Bad fault.place
+
+unfoldable pub next_of : {A : Type 0} → Read A → Result ℕ Unread
+next_of (got a rest at) = Ok at
+next_of (bad place) = Err (Bad place)
+
+unfoldable pub next_in : {A : Type 0} → Bool → Read A → Result ℕ Unread
+next_in true r = Err Short
 next_in false r = next_of r
+
+-- what is read, or the place of the fault
+unfoldable pub value_of : {A : Type 0} → Read A → Result A Fault
+value_of (got a rest at) = Ok a
+value_of (bad place) = Err (fault_at place)
 
 -- the head of a call
 
@@ -57,16 +69,43 @@ highest_code = 5
 
 -- end of numbers of codes
 
-abbrev pub head_in : Code → ℕ → ℕ → CallHead
-head_in code dims size = record { code = code_number code; dims = dims; size = size }
+-- A code as the program tells it, and what the program's stands for.
+abbrev pub code_told : Code → CallCode
+-- written by tools/written.py: codes told
+code_told c_context = Context
+code_told c_universe = Universe
+code_told c_infer = Infer
+code_told c_check = Check
+code_told c_normalise = Normalise
+code_told c_equal = Equal
 
-unfoldable pub head_of : Read Head → Heading
-head_of (got head rest at) = Is (head_in head.code head.dims head.size)
-head_of (bad place) = NoHead place
+-- end of codes told
+
+abbrev pub code_of : CallCode → Code
+-- written by tools/written.py: codes of the program
+code_of Context = c_context
+code_of Universe = c_universe
+code_of Infer = c_infer
+code_of Check = c_check
+code_of Normalise = c_normalise
+code_of Equal = c_equal
+
+-- end of codes of the program
+
+unfoldable pub code_in : Option Code → Maybe CallCode
+code_in none = None
+code_in (some code) = Some (code_told code)
+
+abbrev pub head_in : Code → ℕ → ℕ → CallHead
+head_in code dims size = record { code = code_told code; dims = dims; size = size }
+
+unfoldable pub head_of : Read Head → Result CallHead Fault
+head_of (got head rest at) = Ok (head_in head.code head.dims head.size)
+head_of (bad place) = Err (fault_at place)
 
 -- This is the head of the call at an offset.
 abbrev pub HeadAt : List ℕ → ℕ → CallHead → Type 0
-HeadAt bytes at head = Is head ≡ head_of (read_head (drop at bytes) at)
+HeadAt bytes at head = Ok head ≡ head_of (read_head (drop at bytes) at)
 
 unfoldable pub terms_in : Option Code → ℕ
 terms_in none = 0
@@ -74,42 +113,55 @@ terms_in (some code) = terms_of code
 
 -- How many terms follow a head, the types of its context among them.
 abbrev pub many_terms : CallHead → ℕ
-many_terms head = head.size + terms_in (get_or codes head.code none)
+many_terms head = head.size + terms_of (code_of head.code)
 
 -- the whole run: refusals 2 and 3, or its nesting limit and the number of its calls
 
-unfoldable pub limit_of : Read ℕ → Limit
-limit_of (got limit rest at) = IsLimit limit
-limit_of (bad place) = NoLimit place
+abbrev pub limit_of : Read ℕ → Result ℕ Fault
+limit_of = value_of
+
+abbrev pub calls_read : ℕ → ℕ → Result Scanned Refused
+calls_read limit calls = Ok (record { limit = limit; calls = calls })
+
+abbrev pub refused_at : ℕ → ℕ → Refused
+refused_at number place = record { number = number; place = place }
+
+-- A run that cannot be read is refused; one that is too long for the stack is too long.
+abbrev pub refused_unread : Unread → Refused
+refused_unread (Bad place) = refused_at Refusal.unread place
+refused_unread Short = refused_at Refusal.bytes 0
 
 -- The calls that are read, after so many.
-unfoldable pub counted : ℕ → ℕ → Read (List Call) → Scanned
-counted limit n (got calls rest at) = Calls limit (n + length calls)
-counted limit n (bad place) = RefusedRun Refusal.unread place
+unfoldable pub counted : ℕ → ℕ → Read (List Call) → Result Scanned Refused
+counted limit n (got calls rest at) = calls_read limit (n + length calls)
+counted limit n (bad place) = Err (refused_at Refusal.unread place)
 
-unfoldable pub told : Read (ℕ × List Call) → Scanned
-told (got (limit, calls) rest at) = Calls limit (length calls)
-told (bad place) = RefusedRun Refusal.unread place
+unfoldable pub told : Read (ℕ × List Call) → Result Scanned Refused
+told (got (limit, calls) rest at) = calls_read limit (length calls)
+told (bad place) = Err (refused_at Refusal.unread place)
 
-unfoldable pub unless_long : Bool → Scanned → Scanned
-unless_long true s = RefusedRun Refusal.bytes 0
+unfoldable pub unless_long : Bool → Result Scanned Refused → Result Scanned Refused
+unless_long true s = Err (refused_at Refusal.bytes 0)
 unless_long false s = s
 
-abbrev pub scanned : List ℕ → Scanned
+abbrev pub scanned : List ℕ → Result Scanned Refused
 scanned bytes = unless_long (ltb 65536 (length bytes)) (told (read_run bytes))
 
 -- the limits of a call: refusals 5 to 7, or its head and its nodes; with the offset past it
 
-unfoldable pub sized : Sized → Call → ℕ → Size
-sized (fits nodes) call next = Fits (head_in call.code call.dims (length call.types)) nodes next
-sized scope_over call next = Refused Refusal.scope next
-sized size_over call next = Refused Refusal.size next
-sized index_over call next = Refused Refusal.index next
+abbrev pub fits_to : CallHead → ℕ → ℕ → Result Fitting Unfit
+fits_to head nodes next = Ok (record { head = head; nodes = nodes; next = next })
 
-unfoldable pub size_of : Read Call → Size
+unfoldable pub sized : Sized → Call → ℕ → Result Fitting Unfit
+sized (fits nodes) call next = fits_to (head_in call.code call.dims (length call.types)) nodes next
+sized scope_over call next = Err (Over Refusal.scope next)
+sized size_over call next = Err (Over Refusal.size next)
+sized index_over call next = Err (Over Refusal.index next)
+
+unfoldable pub size_of : Read Call → Result Fitting Unfit
 size_of (got call rest next) = sized (size_call call) call next
-size_of (bad place) = NoCall place
+size_of (bad place) = Err (NotRead (Bad place))
 
-unfoldable pub size_in : Bool → Read Call → Size
-size_in true r = NoRoom
+unfoldable pub size_in : Bool → Read Call → Result Fitting Unfit
+size_in true r = Err (NotRead Short)
 size_in false r = size_of r

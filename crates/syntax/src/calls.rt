@@ -1,17 +1,48 @@
 // The codes of calls: docs/FORMAT.md.
 // Written by tools/written.py from tools/language.py; `python3 tools/written.py` makes it again.
+ghost use Rattle.std.specs.Prelude.{◌≡◌, get_or};
+ghost use Rattle.std.proofs.Math.Option.{none};
+ghost use Rattle.walk.specs.Reader.{codes, terms_of};
+ghost use Rattle.syntax.specs.Told.{code_of, code_in};
 
-pub const CONTEXT: u8 = 0;
+#[derive(Clone, Copy, Debug, PartialEq, Eq)]
+pub enum Code {
+    Context = 0,
+    Universe = 1,
+    Infer = 2,
+    Check = 3,
+    Normalise = 4,
+    Equal = 5,
+}
 
-pub const UNIVERSE: u8 = 1;
+impl Code {
+    // The code that this byte is.
+    #[tactic(auto, unfolding(crate::specs::Told::code_in))]
+    pub fn of(byte: u8) -> Option<Code>
+        ensures { result ≡ code_in (get_or codes byte none) }
+    {
+        match byte {
+            0 => Some(Code::Context),
+            1 => Some(Code::Universe),
+            2 => Some(Code::Infer),
+            3 => Some(Code::Check),
+            4 => Some(Code::Normalise),
+            5 => Some(Code::Equal),
+            _ => None,
+        }
+    }
 
-pub const INFER: u8 = 2;
-
-pub const CHECK: u8 = 3;
-
-pub const NORMALISE: u8 = 4;
-
-pub const EQUAL: u8 = 5;
-
-// No code is higher.
-pub const HIGHEST: u8 = 5;
+    // How many terms follow the context of a call with this code.
+    pub fn terms(self) -> usize
+        ensures { result ≡ terms_of (code_of self) }
+    {
+        match self {
+            Code::Context => 0,
+            Code::Universe => 1,
+            Code::Infer => 1,
+            Code::Check => 2,
+            Code::Normalise => 2,
+            Code::Equal => 3,
+        }
+    }
+}

@@ -1,10 +1,10 @@
 // The codes of a run's calls, for what shows their answers.
-ghost use Rattle.std.specs.Prelude.{◌≡◌, set};
+ghost use Rattle.std.specs.Prelude.{◌≡◌, length, set};
 ghost use Rattle.std.proofs.lemmas.List.Edits.{sets};
 ghost use Rattle.syntax.specs.Codes.{call_codes, Readable};
 
 use super::cursor::past_at;
-use super::scan::{Next, Scanned, scan_run};
+use super::scan::scan_run;
 
 // Stores a code, where there is room.
 fn put_code(codes: &mut [u8], i: usize, code: u8)
@@ -15,32 +15,28 @@ fn put_code(codes: &mut [u8], i: usize, code: u8)
     }
 }
 
-// Stores each call's code, as far as there is room, of a run that was read: no call of it is bad, and the stack has room.
-fn put_codes(s: &[u8], codes: &mut [u8])
-    requires { Readable s.now }
+// Stores each call's code, as far as there is room, of a run of so many calls that was read: none of them is bad, and the stack has room.
+fn put_codes(s: &[u8], calls: usize, codes: &mut [u8])
+    requires { (run : Readable s.now) × (length run.calls ≡ calls) }
     ensures { codes.new ≡ sets codes.old 0 (call_codes s.now) }
 {
     let mut stack = [0u8; 131073];
     let mut at: usize = 2;
-    let mut i: usize = 0;
-    while at < s.len() {
+    for i in 0..calls {
         put_code(codes, i, s[at]);
-        let next = past_at(s, at, &mut stack);
-        let Next::Past(p) = next else {
+        let Ok(next) = past_at(s, at, &mut stack) else {
             return;
         };
-        at = p;
-        i = i + 1;
+        at = next;
     }
 }
 
 // Stores each call's code, as far as there is room, and leaves the bytes past them. Of a run that is refused with 2 or 3 none is stored.
+#[tactic(auto, using(crate::proofs::Coded::not_read))]
 pub fn call_codes(s: &[u8], codes: &mut [u8])
     ensures { codes.new ≡ sets codes.old 0 (call_codes s.now) }
 {
-    let scanned = scan_run(s);
-    let Scanned::Calls(_, _) = scanned else {
-        return;
-    };
-    put_codes(s, codes);
+    if let Ok(scanned) = scan_run(s) {
+        put_codes(s, scanned.calls, codes);
+    }
 }

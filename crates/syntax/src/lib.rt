@@ -8,9 +8,10 @@ pub mod limits;
 mod parts;
 pub mod scan;
 
+pub use calls::Code;
 pub use codes::call_codes;
 pub use cursor::{Reader, head_at, limit_of, past_at};
-pub use limits::{Size, size_call};
+pub use limits::{Fitting, Unfit, size_call};
 pub use scan::{
-    CallHead, Heading, Limit, Next, Scanned, read_head, scan_run, skip_call, skip_term, terms_of,
+    CallHead, Fault, Refusal, Scanned, Unread, read_head, scan_run, skip_call, skip_term, terms_of,
 };

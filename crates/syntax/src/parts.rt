@@ -1,155 +1,121 @@
 // The parts of a node that are still to be read, and the stack that holds them.
-ghost use Rattle.std.specs.Prelude.{◌≡◌, ◌+◌, ◌<◌, ◌≤◌, get_or, length};
-ghost use Rattle.std.proofs.Math.Option.{none as nothing};
+ghost use Rattle.std.specs.Prelude.{◌≡◌, ◌+◌, ◌*◌, ◌/◌, ◌%◌, ◌≤◌, get_or, length, MatchOption};
+ghost use Rattle.std.proofs.Math.Option.{none, some};
 ghost use Rattle.walk.specs.Reader.{kinds, ikinds};
-ghost use Rattle.syntax.specs.Parts.{Lists, parts as term_parts, iparts, of_kind, after, part as part_of, parts_none, parts_one, parts_two, parts_three, parts_refused, pushed, deeper as deepened};
+ghost use Rattle.syntax.specs.Parts.{parts as term_parts, iparts, of_kind, after, part as part_of, word as word_of, pushed};
 
 // A part: the number of u, v or dim, which may be any byte; a term; an interval.
-pub(crate) const INDEX: u8 = 0;
+#[derive(Clone, Copy, Debug, PartialEq, Eq)]
+pub(crate) enum Part {
+    Index,
+    Term,
+    Interval,
+}
 
-pub(crate) const TERM: u8 = 1;
-
-pub(crate) const INTERVAL: u8 = 2;
-
-// The parts of a node, the last of them in low. Where n is 4 the node's byte may not stand there.
+// A part that is due, and the depth at which it stands.
 #[derive(Clone, Copy)]
-pub(crate) struct Parts {
-    pub n: usize,
-    pub low: u8,
-    pub mid: u8,
-    pub top: u8,
+pub(crate) struct Due {
+    pub part: Part,
+    pub depth: u8,
 }
 
-fn none() -> Parts
-    ensures { result ≡ parts_none }
-{
-    Parts {
-        n: 0,
-        low: 0,
-        mid: 0,
-        top: 0,
-    }
-}
-
-fn one(a: u8) -> Parts
-    ensures { result ≡ parts_one a }
-{
-    Parts {
-        n: 1,
-        low: a,
-        mid: 0,
-        top: 0,
-    }
-}
-
-fn two(a: u8, b: u8) -> Parts
-    ensures { result ≡ parts_two a b }
-{
-    Parts {
-        n: 2,
-        low: b,
-        mid: a,
-        top: 0,
-    }
-}
-
-fn three(a: u8, b: u8, c: u8) -> Parts
-    ensures { result ≡ parts_three a b c }
-{
-    Parts {
-        n: 3,
-        low: c,
-        mid: b,
-        top: a,
-    }
-}
-
-fn refused() -> Parts
-    ensures { result ≡ parts_refused }
-{
-    Parts {
-        n: 4,
-        low: 0,
-        mid: 0,
-        top: 0,
-    }
-}
-
-#[tactic(auto, unfolding(crate::specs::Parts::so_many, crate::specs::Parts::part, crate::specs::Parts::of_kind))]
-fn of_term(kind: u8) -> Parts
-    ensures { Lists (of_kind term_parts (get_or kinds kind nothing)) result }
+#[tactic(auto, unfolding(crate::specs::Parts::of_kind))]
+fn of_term(kind: u8) -> Option<&'static [Part]>
+    ensures { let new = of_kind term_parts (get_or kinds kind none) in MatchOption result (new ≡ none) (λ parts. (new ≡ some parts.now) × (length parts.now ≤ 3)) }
 {
     match kind {
         // written by tools/written.py: parts of a term
-        1 => one(INDEX),
-        2 => one(INDEX),
-        3 => none(),
-        4 => none(),
-        5 => two(TERM, TERM),
-        6 => two(TERM, TERM),
-        7 => two(TERM, TERM),
-        8 => three(TERM, TERM, TERM),
-        9 => two(TERM, TERM),
-        10 => two(TERM, INTERVAL),
-        11 => two(TERM, TERM),
-        12 => three(TERM, TERM, TERM),
-        13 => one(TERM),
-        14 => one(TERM),
+        1 => Some(&[Part::Index]),
+        2 => Some(&[Part::Index]),
+        3 => Some(&[]),
+        4 => Some(&[]),
+        5 => Some(&[Part::Term, Part::Term]),
+        6 => Some(&[Part::Term, Part::Term]),
+        7 => Some(&[Part::Term, Part::Term]),
+        8 => Some(&[Part::Term, Part::Term, Part::Term]),
+        9 => Some(&[Part::Term, Part::Term]),
+        10 => Some(&[Part::Term, Part::Interval]),
+        11 => Some(&[Part::Term, Part::Term]),
+        12 => Some(&[Part::Term, Part::Term, Part::Term]),
+        13 => Some(&[Part::Term]),
+        14 => Some(&[Part::Term]),
         // end of parts of a term
-        _ => refused(),
+        _ => None,
     }
 }
 
-#[tactic(auto, unfolding(crate::specs::Parts::so_many, crate::specs::Parts::part, crate::specs::Parts::of_kind))]
-fn of_interval(kind: u8) -> Parts
-    ensures { Lists (of_kind iparts (get_or ikinds kind nothing)) result }
+#[tactic(auto, unfolding(crate::specs::Parts::of_kind))]
+fn of_interval(kind: u8) -> Option<&'static [Part]>
+    ensures { let new = of_kind iparts (get_or ikinds kind none) in MatchOption result (new ≡ none) (λ parts. (new ≡ some parts.now) × (length parts.now ≤ 3)) }
 {
     match kind {
         // written by tools/written.py: parts of an interval
-        16 => none(),
-        17 => none(),
-        18 => one(INDEX),
-        19 => one(INTERVAL),
-        20 => two(INTERVAL, INTERVAL),
-        21 => two(INTERVAL, INTERVAL),
+        16 => Some(&[]),
+        17 => Some(&[]),
+        18 => Some(&[Part::Index]),
+        19 => Some(&[Part::Interval]),
+        20 => Some(&[Part::Interval, Part::Interval]),
+        21 => Some(&[Part::Interval, Part::Interval]),
         // end of parts of an interval
-        _ => refused(),
+        _ => None,
     }
 }
 
-// What byte b leaves to be read where this part is due.
-#[tactic(auto, unfolding(crate::specs::Parts::so_many, crate::specs::Parts::part, crate::specs::Parts::after))]
-pub(crate) fn parts_after(part: u8, b: u8) -> Parts
-    ensures { Lists (after (part_of part) b) result }
-{
-    match part {
-        INDEX => none(),
-        TERM => of_term(b),
-        _ => of_interval(b),
+impl Part {
+    // The part that a word of the scan's stack is.
+    #[tactic(auto, unfolding(crate::specs::Parts::part))]
+    pub fn of(word: u8) -> Part
+        ensures { result ≡ part_of word }
+    {
+        match word {
+            0 => Part::Index,
+            1 => Part::Term,
+            _ => Part::Interval,
+        }
+    }
+
+    // The word that this part is on a stack, where it stands at a depth.
+    pub fn word(self, depth: u8) -> u8
+        requires { depth ≤ 33 }
+        ensures { result ≡ word_of self + 3 * depth }
+    {
+        self as u8 + 3 * depth
+    }
+
+    // What byte b leaves to be read where this part is due, and nothing where it may not stand.
+    #[tactic(auto, unfolding(crate::specs::Parts::after))]
+    pub fn after(self, b: u8) -> Option<&'static [Part]>
+        ensures { let new = after self b in MatchOption result (new ≡ none) (λ parts. (new ≡ some parts.now) × (length parts.now ≤ 3)) }
+    {
+        match self {
+            Part::Index => Some(&[]),
+            Part::Term => of_term(b),
+            Part::Interval => of_interval(b),
+        }
     }
 }
 
-// The same parts as the limits pass keeps them, each with its depth.
-pub(crate) fn deeper(p: Parts, depth: u8) -> Parts
-    requires { (p.low ≤ 2) × (p.mid ≤ 2) × (p.top ≤ 2) × (depth ≤ 33) }
-    ensures { result ≡ deepened p depth }
-{
-    let base = 3 * depth;
-    Parts {
-        n: p.n,
-        low: p.low + base,
-        mid: p.mid + base,
-        top: p.top + base,
+impl Due {
+    // What a word is on the stack of the limits pass: a part and three times its depth.
+    pub fn of(word: u8) -> Due
+        ensures { (result.part ≡ part_of (word % 3)) × (result.depth ≡ word / 3) }
+    {
+        Due {
+            part: Part::of(word % 3),
+            depth: word / 3,
+        }
     }
 }
 
-// Puts the parts where the word at top lay, and gives the new height.
-pub(crate) fn push(stack: &mut [u8], top: usize, p: Parts) -> usize
-    requires { (p.n ≤ 3) × (top + 2 < length stack.old) }
-    ensures { (result ≡ top + p.n) × (stack.new ≡ pushed stack.old top p) }
+// Puts the parts, each at this depth, where the word at top lay, the last of them first, and gives the new height.
+pub(crate) fn push(stack: &mut [u8], top: usize, parts: &[Part], depth: u8) -> usize
+    requires { (top + length parts.now ≤ length stack.old) × (depth ≤ 33) }
+    ensures { (result ≡ top + length parts.now) × (stack.new ≡ pushed stack.old top depth parts.now) }
 {
-    stack[top] = p.low;
-    stack[top + 1] = p.mid;
-    stack[top + 2] = p.top;
-    top + p.n
+    let mut height = top;
+    for part in parts.iter().rev() {
+        stack[height] = part.word(depth);
+        height = height + 1;
+    }
+    height
 }

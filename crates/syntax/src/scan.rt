@@ -2,118 +2,140 @@
 // the bytes go, so what is still to be read stands on a stack that is lent, and its contents do not matter.
 ghost use Rattle.std.specs.Prelude.{◌≡◌, ◌≤◌, length, drop, get_or};
 ghost use Rattle.std.proofs.Math.Option.{none};
-ghost use Rattle.walk.specs.Reader.{codes, read_head as walk_head, read_limit as walk_limit, read_calls};
-ghost use Rattle.syntax.specs.Told.{term_at, terms_at, call_at, short, next_in, head_of, terms_in, many_terms, limit_of, counted, scanned};
+ghost use Rattle.walk.specs.Reader.{codes, byte, read_head as walk_head, read_limit as walk_limit, read_calls};
+ghost use Rattle.syntax.specs.Told.{term_at, terms_at, call_at, short, next_in, head_of, terms_in, many_terms, limit_of, counted, scanned, unread_at, refused_unread, value_of};
 
-use super::calls;
+use super::calls::Code;
 use super::cursor::{head_at, limit_of, past_at};
-use super::parts::{TERM, parts_after, push};
+use super::parts::{Part, push};
 use ast::refusals;
 
-// The offset past what was read, the place of a fault, or no room: the stack has under 2 * length + 1 bytes.
-#[derive(Clone, Copy)]
-pub enum Next {
-    Past(usize),
+// Where a run cannot be read: the leftmost byte that may not stand there, or the run's end.
+#[derive(Clone, Copy, Debug, PartialEq, Eq)]
+pub struct Fault {
+    pub place: usize,
+}
+
+// Why the offset past a thing was not found: the place of a fault, or no room: the stack has under 2 * length + 1 bytes.
+#[derive(Clone, Copy, Debug, PartialEq, Eq)]
+pub enum Unread {
     Bad(usize),
     Short,
 }
 
+impl From<Fault> for Unread {
+    ghost from_gives = { λ fault unread. unread ≡ unread_at fault };
+
+    fn from(fault: Fault) -> Unread {
+        Unread::Bad(fault.place)
+    }
+}
+
 // A call's first three bytes: its code, its dimension count and the length of its context.
-#[derive(Clone, Copy)]
+#[derive(Clone, Copy, Debug, PartialEq, Eq)]
 pub struct CallHead {
-    pub code: u8,
+    pub code: Code,
     pub dims: u8,
     pub size: u8,
 }
 
-// A call's head, or the place of the fault.
-#[derive(Clone, Copy)]
-pub enum Heading {
-    Is(CallHead),
-    Bad(usize),
+// A run that was read: its nesting limit and the number of its calls.
+#[derive(Clone, Copy, Debug, PartialEq, Eq)]
+pub struct Scanned {
+    pub limit: usize,
+    pub calls: usize,
 }
 
-// A run's nesting limit, or the place of the fault.
-#[derive(Clone, Copy)]
-pub enum Limit {
-    Is(usize),
-    Bad(usize),
+// A run that is refused as a whole: the refusal's number and place.
+#[derive(Clone, Copy, Debug, PartialEq, Eq)]
+pub struct Refusal {
+    pub number: u32,
+    pub place: usize,
 }
 
-// The nesting limit and the number of calls, or the refusal's number and place.
-#[derive(Clone, Copy)]
-pub enum Scanned {
-    Calls(usize, usize),
-    Refused(u32, usize),
+impl From<Fault> for Refusal {
+    ghost from_gives = { λ fault refusal. refusal ≡ refused_unread (unread_at fault) };
+
+    fn from(fault: Fault) -> Refusal {
+        Refusal {
+            number: refusals::UNREAD,
+            place: fault.place,
+        }
+    }
 }
 
-pub(crate) fn wide(x: u8) -> usize
-    ensures { result ≡ x }
-{
-    x as usize
+// A stack without room for the run has room for no run that is short enough.
+impl From<Unread> for Refusal {
+    ghost from_gives = { λ unread refusal. refusal ≡ refused_unread unread };
+
+    fn from(unread: Unread) -> Refusal {
+        match unread {
+            Unread::Bad(place) => Refusal {
+                number: refusals::UNREAD,
+                place,
+            },
+            Unread::Short => Refusal {
+                number: refusals::BYTES,
+                place: 0,
+            },
+        }
+    }
 }
 
 // One term from an offset on. A word of the stack is a part.
-pub fn skip_term(s: &[u8], from: usize, stack: &mut [u8]) -> Next
+#[tactic(auto, unfolding(crate::specs::Told::next_in))]
+pub fn skip_term(s: &[u8], from: usize, stack: &mut [u8]) -> Result<usize, Unread>
     ensures { result ≡ next_in (short stack.old s.now) (term_at s.now from) }
 {
     if stack.len() < 2 * s.len() + 1 {
-        return Next::Short;
+        return Err(Unread::Short);
     }
-    stack[0] = TERM;
+    stack[0] = Part::Term.word(0);
     let mut height: usize = 1;
     let mut at = from;
     while 0 < height {
         if s.len() <= at {
-            return Next::Bad(at);
+            return Err(Unread::Bad(at));
         }
         let top = height - 1;
-        let p = parts_after(stack[top], s[at]);
-        let n = p.n;
-        if 3 < n {
-            return Next::Bad(at);
-        }
-        height = push(stack, top, p);
+        let due = Part::of(stack[top]);
+        let Some(parts) = due.after(s[at]) else {
+            return Err(Unread::Bad(at));
+        };
+        height = push(stack, top, parts, 0);
         at = at + 1;
     }
-    Next::Past(at)
+    Ok(at)
 }
 
 // So many terms, one after the other.
-pub(crate) fn skip_terms(s: &[u8], from: usize, count: usize, stack: &mut [u8]) -> Next
+#[tactic(auto, unfolding(crate::specs::Told::next_in), using(crate::proofs::Terms::terms_on, crate::proofs::Terms::terms_done))]
+pub(crate) fn skip_terms(
+    s: &[u8],
+    from: usize,
+    count: usize,
+    stack: &mut [u8],
+) -> Result<usize, Unread>
     ensures { result ≡ next_in (short stack.old s.now) (terms_at count s.now from) }
 {
     if stack.len() < 2 * s.len() + 1 {
-        return Next::Short;
+        return Err(Unread::Short);
     }
-    let mut left = count;
     let mut at = from;
-    while 0 < left {
-        let next = skip_term(s, at, stack);
-        let Next::Past(p) = next else {
-            return next;
-        };
-        at = p;
-        left = left - 1;
+    for _ in 0..count {
+        at = skip_term(s, at, stack)?;
     }
-    Next::Past(at)
+    Ok(at)
 }
 
-// How many terms follow the context of a call with this code.
-#[tactic(auto, unfolding(crate::specs::Told::terms_in))]
+// How many terms follow the context of a call with this code: none where no call has it.
+#[tactic(auto, unfolding(crate::specs::Told::terms_in), using(crate::proofs::Bytes::terms_told, crate::proofs::Bytes::no_code_found))]
 pub fn terms_of(code: u8) -> usize
     ensures { result ≡ terms_in (get_or codes code none) }
 {
-    match code {
-        // written by tools/written.py: terms of a call
-        calls::CONTEXT => 0,
-        calls::UNIVERSE => 1,
-        calls::INFER => 1,
-        calls::CHECK => 2,
-        calls::NORMALISE => 2,
-        calls::EQUAL => 3,
-        // end of terms of a call
-        _ => 0,
+    match Code::of(code) {
+        Some(code) => code.terms(),
+        None => 0,
     }
 }
 
@@ -121,70 +143,64 @@ pub fn terms_of(code: u8) -> usize
 pub(crate) fn terms_after(head: CallHead) -> usize
     ensures { result ≡ many_terms head }
 {
-    wide(head.size) + terms_of(head.code)
+    usize::from(head.size) + head.code.terms()
+}
+
+// The byte at an offset.
+#[tactic(auto, using(crate::proofs::Bytes::byte_here, crate::proofs::Bytes::no_byte))]
+fn byte_at(s: &[u8], at: usize) -> Result<u8, Fault>
+    ensures { result ≡ value_of (byte (drop at s.now) at) }
+{
+    if s.len() <= at {
+        return Err(Fault { place: at });
+    }
+    Ok(s[at])
 }
 
 // The head of the call at an offset: what a `Reader` reads.
-pub fn read_head(s: &[u8], from: usize) -> Heading
+#[tactic(auto, unfolding(crate::specs::Told::head_of), using(crate::specs::Heads::head_none, crate::proofs::Bytes::found, crate::proofs::Bytes::missed))]
+pub fn read_head(s: &[u8], from: usize) -> Result<CallHead, Fault>
     ensures { result ≡ head_of (walk_head (drop from s.now) from) }
 {
-    if s.len() <= from {
-        return Heading::Bad(from);
-    }
-    let code = s[from];
-    if calls::HIGHEST < code {
-        return Heading::Bad(from);
-    }
-    let second = from + 1;
-    if s.len() <= second {
-        return Heading::Bad(second);
-    }
-    let third = second + 1;
-    if s.len() <= third {
-        return Heading::Bad(third);
-    }
-    Heading::Is(CallHead {
-        code,
-        dims: s[second],
-        size: s[third],
-    })
+    let first = byte_at(s, from)?;
+    let Some(code) = Code::of(first) else {
+        return Err(Fault { place: from });
+    };
+    let dims = byte_at(s, from + 1)?;
+    let size = byte_at(s, from + 2)?;
+    Ok(CallHead { code, dims, size })
 }
 
 // One call from an offset on.
-pub fn skip_call(s: &[u8], from: usize, stack: &mut [u8]) -> Next
+#[tactic(auto, unfolding(crate::specs::Told::next_in), using(crate::proofs::Terms::call_no_head, crate::proofs::Terms::call_on, crate::proofs::Terms::same_in))]
+pub fn skip_call(s: &[u8], from: usize, stack: &mut [u8]) -> Result<usize, Unread>
     ensures { result ≡ next_in (short stack.old s.now) (call_at s.now from) }
 {
     if stack.len() < 2 * s.len() + 1 {
-        return Next::Short;
+        return Err(Unread::Short);
     }
-    let heading = head_at(s, from);
-    match heading {
-        Heading::Bad(p) => Next::Bad(p),
-        Heading::Is(head) => skip_terms(s, from + 3, terms_after(head), stack),
-    }
+    let head = head_at(s, from)?;
+    skip_terms(s, from + 3, terms_after(head), stack)
 }
 
-pub fn read_limit(s: &[u8]) -> Limit
+pub fn read_limit(s: &[u8]) -> Result<usize, Fault>
     ensures { result ≡ limit_of (walk_limit s.now 0) }
 {
-    if s.len() < 1 {
-        return Limit::Bad(0);
-    }
-    if s.len() < 2 {
-        return Limit::Bad(1);
-    }
-    let limit = wide(s[0]) + 256 * wide(s[1]);
+    let low = byte_at(s, 0)?;
+    let high = byte_at(s, 1)?;
+    let limit = usize::from(low) + 256 * usize::from(high);
     if limit < 1 {
-        return Limit::Bad(0);
+        return Err(Fault { place: 0 });
     }
     if 4096 < limit {
-        return Limit::Bad(0);
+        return Err(Fault { place: 0 });
     }
-    Limit::Is(limit)
+    Ok(limit)
 }
 
 // The calls after the nesting limit. Two bytes of stack for each byte of the longest run, and one more.
-fn count_calls(s: &[u8], limit: usize) -> Scanned
+#[tactic(auto, using(crate::proofs::Runs::past_call, crate::proofs::Runs::calls_bad, crate::proofs::Runs::calls_done, crate::proofs::Runs::room))]
+fn count_calls(s: &[u8], limit: usize) -> Result<Scanned, Refusal>
     requires { length s.now ≤ 65536 }
     ensures { result ≡ counted limit 0 (read_calls (length s.now) (length s.now) (drop 2 s.now) 2) }
 {
@@ -192,33 +208,23 @@ fn count_calls(s: &[u8], limit: usize) -> Scanned
     let mut at: usize = 2;
     let mut calls: usize = 0;
     while at < s.len() {
-        let next = past_at(s, at, &mut stack);
-        match next {
-            Next::Past(p) => {
-                at = p;
-            }
-            Next::Bad(p) => {
-                return Scanned::Refused(refusals::UNREAD, p);
-            }
-            Next::Short => {
-                return Scanned::Refused(refusals::BYTES, 0);
-            }
-        }
+        at = past_at(s, at, &mut stack)?;
         calls = calls + 1;
     }
-    Scanned::Calls(limit, calls)
+    Ok(Scanned { limit, calls })
 }
 
 // A whole run: refusals 2 and 3, or its limit and the number of its calls.
-pub fn scan_run(s: &[u8]) -> Scanned
+#[tactic(auto, unfolding(crate::specs::Told::unless_long), using(crate::proofs::Runs::run_bad, crate::proofs::Runs::run_on))]
+pub fn scan_run(s: &[u8]) -> Result<Scanned, Refusal>
     ensures { result ≡ scanned s.now }
 {
     if 65536 < s.len() {
-        return Scanned::Refused(refusals::BYTES, 0);
+        return Err(Refusal {
+            number: refusals::BYTES,
+            place: 0,
+        });
     }
-    let limit = limit_of(s);
-    match limit {
-        Limit::Bad(p) => Scanned::Refused(refusals::UNREAD, p),
-        Limit::Is(n) => count_calls(s, n),
-    }
+    let limit = limit_of(s)?;
+    count_calls(s, limit)
 }

@@ -4,7 +4,7 @@ use Rattle.walk.specs.Rule.{kind_of}
 use Rattle.rules.specs.Names.{bytes, rule_name, judgment_name, node_name}
 use Rattle.rules.specs.Kinds.{sorts_of, sort_of, parts_of, part_of}
 use Rattle.writer.specs.Text.{each, digits, decimal}
-use Rattle.quotes.specs.Quotes.{argument, node_as, lower, quote_within, quote}
+use Rattle.quotes.specs.Quotes.{by_sort, argument, part_in, node_as, lower, quote_within, quote}
 use Rattle.quotes.specs.Judgments.{judgment_as}
 use Rattle.lines.specs.Rows.{some_refs, refs, row_head, row_line}
 use Rattle.lines.specs.Repeats.{with_call, accepted, same, occurs, repeats_after, repeats}
@@ -40,7 +40,7 @@ pub first_listing :
     bytes "1 type.zero 0 (has 0 nil zero nat)\n" ++
     bytes "rows cells repeats\n" ++
     bytes "2 4 0\n"
-unfolding rule_name judgment_name node_name sorts_of sort_of parts_of part_of kind_of each digits decimal argument node_as lower quote_within quote some_refs refs judgment_as with_call accepted same occurs repeats_after repeats call_row result call_result call_head call_line row_head row_line totals read_listing refused_listing listing
+unfolding rule_name judgment_name node_name sorts_of sort_of parts_of part_of kind_of each digits decimal by_sort argument part_in node_as lower quote_within quote some_refs refs judgment_as with_call accepted same occurs repeats_after repeats call_row result call_result call_head call_line row_head row_line totals read_listing refused_listing listing
 first_listing = refl
 
 -- A run that ends early, after six bytes.

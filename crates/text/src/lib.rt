@@ -3,12 +3,14 @@
 
 ghost use Rattle.std.specs.Prelude.{◌≡◌, ◌≤◌, length, take};
 ghost use Rattle.writer.specs.Text.{each};
-ghost use Rattle.writer.specs.Window.{output, written, Shown};
+ghost use Rattle.writer.specs.Window.{written, Shown};
 ghost use Rattle.lines.specs.Rows.{row_line};
 ghost use Rattle.lines.specs.Calls.{call_line};
 ghost use Rattle.text.specs.Listing.{totals, refused_listing, listing, piece};
 
-use lines::{calls, repeats, rows};
+pub use lines::calls::Calls;
+use lines::rows;
+pub use quotes::Table;
 use ran::Ran;
 use writer::Writer;
 
@@ -32,133 +34,104 @@ pub struct View {
     pub left: usize,
 }
 
-// The totals' line.
-#[tactic(auto, using(writer::proofs::Laws::writing), unfolding(crate::specs::Listing::totals))]
-fn totals(writer: Writer, run: Ran, codes: &[u8], answers: &[u32], buf: &mut [u8]) -> Writer
-    ensures { output result buf.new ≡ written (totals run codes.now answers.now) (output writer buf.old) }
-{
-    let n = repeats::repeats(codes, answers, run.calls);
-    let a = writer.number(run.rows, buf);
-    let b = a.put(32, buf);
-    let c = b.number(run.cells, buf);
-    let d = c.put(32, buf);
-    let e = d.number(n, buf);
-    e.put(10, buf)
+// What a run answers of itself, its calls with their answers, and its table.
+#[derive(Clone, Copy)]
+pub struct Words<'a> {
+    pub run: Ran,
+    pub calls: Calls<'a>,
+    pub table: Table<'a>,
 }
 
-// The lines of all calls, and of all rows.
-#[tactic(auto, using(writer::proofs::Laws::written_turn, writer::proofs::Laws::written_end))]
-fn call_lines(
-    mut writer: Writer,
-    codes: &[u8],
-    answers: &[u32],
-    cells: &[u32],
-    n: u32,
-    buf: &mut [u8],
-) -> Writer
-    ensures { output result buf.new ≡ written (each (call_line codes.now answers.now cells.now) 0 n) (output writer buf.old) }
-{
-    let mut k: u32 = 0;
-    while k < n {
-        writer = calls::line(writer, codes, answers, cells, k, buf);
-        k += 1;
+impl Words<'_> {
+    // Puts the part of a text from `from` on into the buffer; says how many bytes that is, and how many are left. A text may be far too
+    // long to be counted, so those that are left are counted up to `most`: with 1, whether there are more. Bytes of the buffer past those
+    // put stay. The second clause follows from the first, and lets a caller lend the part that is filled with no proof of its own.
+    pub fn window(&self, what: Piece, from: usize, most: usize, buf: &mut [u8]) -> View
+        ensures shown { Shown (piece what self.now.run self.now.calls.codes.now self.now.calls.answers.now self.now.table.rows.now self.now.table.cells.now) from most buf.old result.put result.left buf.new }
+        ensures within { (result.put ≤ length buf.new) × (result.put ≡ length (take result.put buf.new)) }
+    {
+        let mut writer = Writer::new(from, most, buf);
+        self.piece(&mut writer, what);
+        View {
+            put: writer.filled,
+            left: writer.left,
+        }
     }
-    writer
-}
 
-#[tactic(auto, using(writer::proofs::Laws::written_turn, writer::proofs::Laws::written_end))]
-fn row_lines(mut writer: Writer, rows: &[u32], cells: &[u32], n: u32, buf: &mut [u8]) -> Writer
-    ensures { output result buf.new ≡ written (each (row_line rows.now cells.now) 0 n) (output writer buf.old) }
-{
-    let mut k: u32 = 0;
-    while k < n {
-        writer = rows::line(writer, rows, cells, k, buf);
-        k += 1;
+    // A text that was asked for.
+    #[tactic(auto, using(writer::proofs::Laws::written_same), unfolding(crate::specs::Listing::piece))]
+    fn piece(&self, writer: &mut Writer, what: Piece)
+        ensures same_reference { writer.new.buf.ghost_name ≡ writer.old.buf.ghost_name }
+        ensures text { writer.new ≡ written (piece what self.now.run self.now.calls.codes.now self.now.calls.answers.now self.now.table.rows.now self.now.table.cells.now) writer.old }
+    {
+        match what {
+            Piece::Listing => self.listing(writer),
+            Piece::CallLine(i) => self.calls.line(&self.table, writer, i),
+            Piece::RowLine(i) => rows::line(&self.table, writer, i),
+            Piece::Totals => self.totals(writer),
+            Piece::RowNumber(i) => writer.number(i),
+            Piece::RuleName(i) => rows::rule(&self.table, writer, i),
+            Piece::Refs(i) => rows::refs(&self.table, writer, i),
+            Piece::Judgment(i) => rows::judgment(&self.table, writer, i),
+        }
     }
-    writer
-}
 
-// The listing of a run that is refused as a whole.
-fn refused(writer: Writer, run: Ran, buf: &mut [u8]) -> Writer
-    ensures { output result buf.new ≡ written (refused_listing run) (output writer buf.old) }
-{
-    let a = writer.bytes(b"number place\n", buf);
-    let b = a.number(run.number, buf);
-    let c = b.put(32, buf);
-    let d = c.number(run.place, buf);
-    d.put(10, buf)
-}
-
-// The listing of a run.
-fn listing(
-    writer: Writer,
-    run: Ran,
-    codes: &[u8],
-    answers: &[u32],
-    rows: &[u32],
-    cells: &[u32],
-    buf: &mut [u8],
-) -> Writer
-    ensures { output result buf.new ≡ written (listing run codes.now answers.now rows.now cells.now) (output writer buf.old) }
-{
-    if run.number != 0 {
-        return refused(writer, run, buf);
+    // The listing of a run.
+    fn listing(&self, writer: &mut Writer)
+        ensures { writer.new ≡ written (listing self.now.run self.now.calls.codes.now self.now.calls.answers.now self.now.table.rows.now self.now.table.cells.now) writer.old }
+    {
+        if self.run.number != 0 {
+            self.refused(writer);
+            return;
+        }
+        writer.bytes(b"call code row result deepest\n");
+        self.call_lines(writer);
+        writer.bytes(b"row rule refs judgment\n");
+        self.row_lines(writer);
+        writer.bytes(b"rows cells repeats\n");
+        self.totals(writer);
     }
-    let h = writer.bytes(b"call code row result deepest\n", buf);
-    let c = call_lines(h, codes, answers, cells, run.calls, buf);
-    let i = c.bytes(b"row rule refs judgment\n", buf);
-    let r = row_lines(i, rows, cells, run.rows, buf);
-    let t = r.bytes(b"rows cells repeats\n", buf);
-    totals(t, run, codes, answers, buf)
-}
 
-// A text that was asked for.
-#[tactic(auto, unfolding(crate::specs::Listing::piece))]
-fn write_piece(
-    writer: Writer,
-    what: Piece,
-    run: Ran,
-    codes: &[u8],
-    answers: &[u32],
-    rows: &[u32],
-    cells: &[u32],
-    buf: &mut [u8],
-) -> Writer
-    ensures { output result buf.new ≡ written (piece what run codes.now answers.now rows.now cells.now) (output writer buf.old) }
-{
-    match what {
-        Piece::Listing => listing(writer, run, codes, answers, rows, cells, buf),
-        Piece::CallLine(i) => calls::line(writer, codes, answers, cells, i, buf),
-        Piece::RowLine(i) => rows::line(writer, rows, cells, i, buf),
-        Piece::Totals => totals(writer, run, codes, answers, buf),
-        Piece::RowNumber(i) => writer.number(i, buf),
-        Piece::RuleName(i) => rows::rule(writer, rows, i, buf),
-        Piece::Refs(i) => rows::refs(writer, rows, i, buf),
-        Piece::Judgment(i) => rows::judgment(writer, rows, cells, i, buf),
+    // The listing of a run that is refused as a whole.
+    fn refused(&self, writer: &mut Writer)
+        ensures { writer.new ≡ written (refused_listing self.now.run) writer.old }
+    {
+        writer.bytes(b"number place\n");
+        writer.number(self.run.number);
+        writer.put(b' ');
+        writer.number(self.run.place);
+        writer.put(b'\n');
     }
-}
 
-// Puts the part of a text from `from` on into the buffer; says how many bytes that is, and how many are left. A text may be far too
-// long to be counted, so those that are left are counted up to `most`: with 1, whether there are more. Bytes of the buffer past those
-// put stay. The second clause follows from the first, and lets a caller lend the part that is filled with no proof of its own.
-pub fn window(
-    what: Piece,
-    run: Ran,
-    codes: &[u8],
-    answers: &[u32],
-    rows: &[u32],
-    cells: &[u32],
-    from: usize,
-    most: usize,
-    buf: &mut [u8],
-) -> View
-    ensures shown { Shown (piece what run codes.now answers.now rows.now cells.now) from most buf.old result.put result.left buf.new }
-    ensures within { (result.put ≤ length buf.new) × (result.put ≡ length (take result.put buf.new)) }
-{
-    let start = Writer::new(from, most);
-    let end = write_piece(start, what, run, codes, answers, rows, cells, buf);
-    View {
-        put: end.filled,
-        left: end.left,
+    // The lines of all calls, and of all rows.
+    #[tactic(auto, using(writer::proofs::Laws::written_turn, writer::proofs::Laws::written_end))]
+    fn call_lines(&self, writer: &mut Writer)
+        ensures { writer.new ≡ written (each (call_line self.now.calls.codes.now self.now.calls.answers.now self.now.table.cells.now) 0 self.now.run.calls) writer.old }
+    {
+        for i in 0..self.run.calls {
+            self.calls.line(&self.table, writer, i);
+        }
+    }
+
+    #[tactic(auto, using(writer::proofs::Laws::written_turn, writer::proofs::Laws::written_end))]
+    fn row_lines(&self, writer: &mut Writer)
+        ensures { writer.new ≡ written (each (row_line self.now.table.rows.now self.now.table.cells.now) 0 self.now.run.rows) writer.old }
+    {
+        for i in 0..self.run.rows {
+            rows::line(&self.table, writer, i);
+        }
+    }
+
+    // The totals' line.
+    #[tactic(auto, using(writer::proofs::Laws::writing), unfolding(crate::specs::Listing::totals))]
+    fn totals(&self, writer: &mut Writer)
+        ensures { writer.new ≡ written (totals self.now.run self.now.calls.codes.now self.now.calls.answers.now) writer.old }
+    {
+        writer.number(self.run.rows);
+        writer.put(b' ');
+        writer.number(self.run.cells);
+        writer.put(b' ');
+        writer.number(self.calls.repeats(self.run.calls));
+        writer.put(b'\n');
     }
 }

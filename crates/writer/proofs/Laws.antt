@@ -1,32 +1,33 @@
 -- Laws of the definitions, by which the functions' proofs go. Assumes nothing.
 use mathlib.Core.Path.{◌≡◌, refl, sym, ap, ◌∙◌}
 use mathlib.Core.Bool.{Bool, true, ◌&&◌, and-eq-true_iff}
-use mathlib.Core.List.{List, [], ◌∷◌, ◌++◌}
+use mathlib.Core.List.{[], ◌∷◌, ◌++◌}
 use Prim.Native.Nat.{ℕ, zero, suc, ◌+◌, ◌-◌, ◌/◌, ◌<◌, ◌≤◌}
-use native.Mathlib.Nat.{sub-zero}
 use native.Mathlib.Decide.{dec_lt}
+use Rattle.std.proofs.Math.Decide.{ℕ_discrete}
 use native.Mathlib.Omega.{arith}
-use borrow.Author.Tests.{lt-ltb, le-ltb, eq-eqb, eqb-true, leb-true}
+use borrow.Author.Tests.{lt-ltb, le-ltb, eq-eqb, ne_eqb, eqb-true, leb-true}
 use lib.Dec.{leb, eqb}
-use lib.ListN.{length, get_or}
+use lib.ListN.{length, get_or, drop, drop_of_length-le}
+use Rattle.std.proofs.lemmas.List.{at_drop_more}
 use Rattle.writer.specs.Text.{Text, each, digit, digits, decimal}
-use Rattle.writer.specs.Window.{Output, output, put, ended, written}
+use Rattle.writer.specs.Window.{put, ended, written}
 use Rattle.writer.specs.declared.Writer.{Writer}
 
 -- writing
 
-pub written_nil : (o : Output) → written [] o ≡ o
+pub written_nil : (w : Writer) → written [] w ≡ w
 unfolding written
-written_nil o = refl
+written_nil w = refl
 
-pub written_cons : (b : ℕ) (t : Text) (o : Output) → written (b ∷ t) o ≡ written t (put b o)
+pub written_cons : (b : ℕ) (t : Text) (w : Writer) → written (b ∷ t) w ≡ written t (put b w)
 unfolding written
-written_cons b t o = refl
+written_cons b t w = refl
 
-pub written_append : (s t : Text) (o : Output) → written (s ++ t) o ≡ written t (written s o)
+pub written_append : (s t : Text) (w : Writer) → written (s ++ t) w ≡ written t (written s w)
 unfolding written
-written_append [] t o = refl
-written_append (b ∷ s) t o = written_append s t (put b o)
+written_append [] t w = refl
+written_append (b ∷ s) t w = written_append s t (put b w)
 
 -- By these a text that is written piece by piece is the whole, written at once.
 pub ruleset writing = (written_nil, written_cons, written_append)
@@ -34,23 +35,42 @@ pub ruleset writing = (written_nil, written_cons, written_append)
 both : {a b : Bool} → (a && b) ≡ true → (a ≡ true) × (b ≡ true)
 both {a} {b} h = (and-eq-true_iff a b).0 h
 
-ended_parts : (w : Writer) (buf : List ℕ) → ended (output w buf) ≡ true → (w.skip ≡ 0) × ((length buf ≤ w.filled) × (w.most ≤ w.left))
+ended_parts : (w : Writer) → ended w ≡ true → (w.skip ≡ 0) × ((length w.buf.now ≤ w.filled) × (w.most ≤ w.left))
 unfolding ended
-ended_parts w buf h =
-    let k : (eqb w.skip 0 ≡ true) × ((leb (length buf) w.filled && leb w.most w.left) ≡ true) = both h in
-    let l : (leb (length buf) w.filled ≡ true) × (leb w.most w.left ≡ true) = both k.1 in
+ended_parts w h =
+    let k : (eqb w.skip 0 ≡ true) × ((leb (length w.buf.now) w.filled && leb w.most w.left) ≡ true) = both h in
+    let l : (leb (length w.buf.now) w.filled ≡ true) × (leb w.most w.left ≡ true) = both k.1 in
     (eqb-true _ _ k.0, (leb-true _ _ l.0, leb-true _ _ l.1))
 
-put_ended : (b : ℕ) (w : Writer) (buf : List ℕ) → ended (output w buf) ≡ true → put b (output w buf) ≡ output w buf
+put_ended : (b : ℕ) (w : Writer) → ended w ≡ true → put b w ≡ w
 unfolding put
-put_ended b w buf h = let k : (w.skip ≡ 0) × ((length buf ≤ w.filled) × (w.most ≤ w.left)) = ended_parts w buf h in
+put_ended b w h = let k : (w.skip ≡ 0) × ((length w.buf.now ≤ w.filled) × (w.most ≤ w.left)) = ended_parts w h in
     rw (eq-eqb _ _ k.0, put, le-ltb _ _ k.1.0, put, le-ltb _ _ k.1.1, put)
 
 -- Where the writer has ended nothing changes.
-pub written_ended : (t : Text) (w : Writer) (buf : List ℕ) → ended (output w buf) ≡ true → written t (output w buf) ≡ output w buf
+pub written_ended : (t : Text) (w : Writer) → ended w ≡ true → written t w ≡ w
 unfolding written
-written_ended [] w buf h = refl
-written_ended (b ∷ t) w buf h = ap (written t) (put_ended b w buf h) ∙ written_ended t w buf h
+written_ended [] w h = refl
+written_ended (b ∷ t) w h = ap (written t) (put_ended b w h) ∙ written_ended t w h
+
+-- The buffer stays the one that was lent.
+put_same : (b : ℕ) (w : Writer) → (put b w).buf.ghost_name ≡ w.buf.ghost_name
+unfolding put
+put_same b w = elim (ℕ_discrete w.skip 0) [
+  | yes h ↦ elim (dec_lt w.filled (length w.buf.now)) [
+    | yes k ↦ rw (eq-eqb _ _ h, put, lt-ltb _ _ k, put)
+    | no k ↦ elim (dec_lt w.left w.most) [
+      | yes l ↦ rw (eq-eqb _ _ h, put, le-ltb w.filled (length w.buf.now) (omega arith), put, lt-ltb _ _ l, put)
+      | no l ↦ rw (eq-eqb _ _ h, put, le-ltb w.filled (length w.buf.now) (omega arith), put, le-ltb w.left w.most (omega arith), put)
+    ]
+  ]
+  | no h ↦ rw (ne_eqb _ _ h, put)
+]
+
+pub written_same : (t : Text) (w : Writer) → (written t w).buf.ghost_name ≡ w.buf.ghost_name
+unfolding written
+written_same [] w = refl
+written_same (b ∷ t) w = written_same t (put b w) ∙ put_same b w
 
 -- loops
 
@@ -59,34 +79,20 @@ each_turn : (f : ℕ → Text) (k n : ℕ) → k < n → each f k (n - k) ≡ f 
 unfolding each
 each_turn f k n h = let e : n - k ≡ suc (n - (k + 1)) = omega arith in let g : k + 1 ≡ suc k = omega arith in rw (e, g)
 
-pub written_turn : (f : ℕ → Text) (k n : ℕ) (o' o : Output) → k < n → o' ≡ written (f k) o → written (each f (k + 1) (n - (k + 1))) o' ≡ written (each f k (n - k)) o
-written_turn f k n o' o h e = rw (e, each_turn f k n h, written_append)
+pub written_turn : (f : ℕ → Text) (k n : ℕ) (w' w : Writer) → k < n → w' ≡ written (f k) w → written (each f (k + 1) (n - (k + 1))) w' ≡ written (each f k (n - k)) w
+written_turn f k n w' w h e = rw (e, each_turn f k n h, written_append)
 
-pub written_end : (f : ℕ → Text) (k n : ℕ) (o : Output) → n ≤ k → written (each f k (n - k)) o ≡ o
+pub written_end : (f : ℕ → Text) (k n : ℕ) (w : Writer) → n ≤ k → written (each f k (n - k)) w ≡ w
 unfolding each written
-written_end f k n o h = let e : n - k ≡ 0 = omega arith in rw e
+written_end f k n w h = let e : n - k ≡ 0 = omega arith in rw e
 
--- A text is that of its bytes.
-abbrev pub byte_of : Text → ℕ → Text
-byte_of l k = get_or l k 0 ∷ []
-
--- A turn that puts the k-th byte of n.
-pub written_byte : (l : Text) (k n : ℕ) (o' o : Output) → k < n → o' ≡ put (get_or l k 0) o → written (each (byte_of l) (k + 1) (n - (k + 1))) o' ≡ written (each (byte_of l) k (n - k)) o
+-- A turn of a loop that puts the k-th byte of a text, and its end.
+pub written_next : (t : Text) (k : ℕ) (w : Writer) → k < length t → written (drop (k + 1) t) (put (get_or t k 0) w) ≡ written (drop k t) w
 unfolding written
-written_byte l k n o' o h e = written_turn (byte_of l) k n o' o h e
+written_next t k w h = sym (at_drop_more (λ s. written s w) t k 0 h)
 
-each_shift : (f : ℕ → Text) (k n : ℕ) → each f (suc k) n ≡ each (λ j. f (suc j)) k n
-unfolding each
-each_shift f k zero = refl
-each_shift f k (suc n) = ap (λ t. f (suc k) ++ t) (each_shift f (suc k) n)
-
-pub each_byte : (l : Text) → each (byte_of l) 0 (length l) ≡ l
-unfolding each
-each_byte [] = refl
-each_byte (b ∷ l) = ap (λ t. b ∷ t) (each_shift (byte_of (b ∷ l)) 0 (length l) ∙ each_byte l)
-
-pub written_bytes : (l : Text) (o : Output) → written (each (byte_of l) 0 (length l - 0)) o ≡ written l o
-written_bytes l o = rw (sub-zero, each_byte)
+pub written_past : (t : Text) (k : ℕ) (w : Writer) → length t ≤ k → written (drop k t) w ≡ w
+written_past t k w h = rw (drop_of_length-le t h, written_nil)
 
 -- numbers
 

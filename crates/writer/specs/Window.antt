@@ -1,43 +1,37 @@
 -- What it is to write a text through a window: the bytes before it are skipped, then the buffer is filled, and the rest is counted.
 -- It is counted no further than is asked, so a text may be as long as it likes. Assumes nothing.
 use Rattle.std.specs.Prelude.{ℕ, ◌+◌, ◌-◌, min, ◌≡◌, Bool, true, false, ◌&&◌, List, [], ◌∷◌, ◌++◌, ltb, leb, eqb, length, take, drop, set}
+use Rattle.std.specs.Borrow.{MutBor}
 use Rattle.writer.specs.Text.{Text}
 use Rattle.writer.specs.declared.Writer.{Writer}
 
--- A writer: how many bytes are still to be skipped, how many of the buffer are filled, how many did not fit, and up to which number
--- those are counted. An output is a writer with the buffer.
-pub record Output : Type 0 where
-  pub writer : Writer
-  pub buf : List ℕ
-
-abbrev pub output : Writer → List ℕ → Output
-output w buf = record { writer = w; buf = buf }
-
-abbrev pub writer : ℕ → ℕ → ℕ → ℕ → Writer
-writer skip filled left most = record { skip = skip; filled = filled; left = left; most = most }
+-- A writer that has written nothing, for the window of the buffer that starts at `from`: how many bytes are still to be skipped, how many
+-- of the buffer are filled, how many did not fit, and up to which number those are counted.
+abbrev pub start : ℕ → ℕ → MutBor (List ℕ) → Writer
+start from most buf = record { buf = buf; skip = from; filled = 0; left = 0; most = most }
 
 -- One byte: skipped where bytes are to be skipped; else stored where the buffer has space; else counted.
-unfoldable pub put : ℕ → Output → Output
-put b o =
-    elim (eqb o.writer.skip 0) [
-      | true ↦ elim (ltb o.writer.filled (length o.buf)) [
-        | true ↦ output (writer o.writer.skip (o.writer.filled + 1) o.writer.left o.writer.most) (set o.buf o.writer.filled b)
-        | false ↦ elim (ltb o.writer.left o.writer.most) [
-          | true ↦ output (writer o.writer.skip o.writer.filled (o.writer.left + 1) o.writer.most) o.buf
-          | false ↦ o
+unfoldable pub put : ℕ → Writer → Writer
+put b w =
+    elim (eqb w.skip 0) [
+      | true ↦ elim (ltb w.filled (length w.buf.now)) [
+        | true ↦ record w { buf = record w.buf { now = set w.buf.now w.filled b }; filled = w.filled + 1 }
+        | false ↦ elim (ltb w.left w.most) [
+          | true ↦ record w { left = w.left + 1 }
+          | false ↦ w
         ]
       ]
-      | false ↦ output (writer (o.writer.skip - 1) o.writer.filled o.writer.left o.writer.most) o.buf
+      | false ↦ record w { skip = w.skip - 1 }
     ]
 
 -- Nothing is to be skipped, the buffer is full, and all that is to be counted is counted.
-unfoldable pub ended : Output → Bool
-ended o = eqb o.writer.skip 0 && (leb (length o.buf) o.writer.filled && leb o.writer.most o.writer.left)
+unfoldable pub ended : Writer → Bool
+ended w = eqb w.skip 0 && (leb (length w.buf.now) w.filled && leb w.most w.left)
 
 -- A text, byte by byte.
-unfoldable pub written : Text → Output → Output
-written [] o = o
-written (b ∷ t) o = written t (put b o)
+unfoldable pub written : Text → Writer → Writer
+written [] w = w
+written (b ∷ t) w = written t (put b w)
 
 -- The part of a text from `from` on, as far as the buffer goes: so many bytes, so many left after them (counted up to `most`), and what
 -- the buffer then holds.

@@ -3,12 +3,13 @@
 
 ghost use Rattle.std.specs.Prelude.{◌≡◌};
 ghost use Rattle.writer.specs.Text.{digit, decimal};
-ghost use Rattle.writer.specs.Window.{output, writer, put, ended, written};
+ghost use Rattle.writer.specs.Window.{start, put, ended, written};
 
-// Writes into a buffer that is lent at each call: how many bytes are still to be skipped, how many of the buffer are filled, and how
-// many did not fit, which are counted up to `most`.
-#[derive(Clone, Copy)]
-pub struct Writer {
+// Writes into a lent buffer: how many bytes are still to be skipped, how many of the buffer are filled, and how many did not fit, which
+// are counted up to `most`.
+#[derive(Drop)]
+pub struct Writer<'a> {
+    pub buf: &'a mut [u8],
     pub skip: usize,
     pub filled: usize,
     pub left: usize,
@@ -19,15 +20,17 @@ pub struct Writer {
 fn digit(n: u32) -> u8
     ensures { result ≡ digit n }
 {
-    48 + (n % 10) as u8
+    b'0' + (n % 10) as u8
 }
 
-impl Writer {
+impl<'a> Writer<'a> {
     // A writer for the window that starts at `from`, which counts at most so many bytes past its end.
-    pub fn new(from: usize, most: usize) -> Writer
-        ensures { result ≡ writer from 0 0 most }
+    pub fn new(from: usize, most: usize, buf: &'a mut [u8]) -> Writer<'a>
+        ensures started { result ≡ start from most buf.entry }
+        ensures same_reference { result.buf.ghost_name ≡ buf.entry.ghost_name }
     {
         Writer {
+            buf,
             skip: from,
             filled: 0,
             left: 0,
@@ -37,60 +40,48 @@ impl Writer {
 
     // One byte.
     #[tactic(auto, unfolding(crate::specs::Window::put))]
-    pub fn put(mut self, b: u8, buf: &mut [u8]) -> Writer
-        ensures { output result buf.new ≡ put b (output self buf.old) }
+    pub fn put(&mut self, b: u8)
+        ensures { self.new ≡ put b self.old }
     {
         if self.skip != 0 {
             self.skip -= 1;
-            return self;
+            return;
         }
         let at = self.filled;
-        if at < buf.len() {
-            buf[at] = b;
+        if at < self.buf.len() {
+            self.buf[at] = b;
             self.filled = at + 1;
-            return self;
+            return;
         }
         if self.left < self.most {
             self.left += 1;
         }
-        self
     }
 
     // Whether no byte changes anything any more.
     #[tactic(auto, unfolding(crate::specs::Window::ended))]
-    pub fn ended(self, buf: &[u8]) -> bool
-        ensures { result ≡ ended (output self buf.now) }
+    pub fn ended(&self) -> bool
+        ensures { result ≡ ended self.now }
     {
-        if self.skip == 0 {
-            if buf.len() <= self.filled {
-                return self.most <= self.left;
-            }
-        }
-        false
+        self.skip == 0 && self.buf.len() <= self.filled && self.most <= self.left
     }
 
     // A number in decimal.
-    pub fn number(self, n: u32, buf: &mut [u8]) -> Writer
-        ensures { output result buf.new ≡ written (decimal n) (output self buf.old) }
+    pub fn number(&mut self, n: u32)
+        ensures { self.new ≡ written (decimal n) self.old }
     {
-        let d = digit(n);
-        if n < 10 {
-            return self.put(d, buf);
+        if 10 <= n {
+            self.number(n / 10);
         }
-        let writer = self.number(n / 10, buf);
-        writer.put(d, buf)
+        self.put(digit(n));
     }
 
     // A slice's bytes.
-    pub fn bytes(self, s: &[u8], buf: &mut [u8]) -> Writer
-        ensures { output result buf.new ≡ written s.now (output self buf.old) }
+    pub fn bytes(&mut self, s: &[u8])
+        ensures { self.new ≡ written s.now self.old }
     {
-        let mut writer = self;
-        let mut k: usize = 0;
-        while k < s.len() {
-            writer = writer.put(s[k], buf);
-            k += 1;
+        for b in s {
+            self.put(*b);
         }
-        writer
     }
 }

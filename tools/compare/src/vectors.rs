@@ -14,7 +14,8 @@ use std::io::{Error, Result};
 use std::path::Path;
 use std::{fs, iter};
 
-/// What `replay` has room for: words of rows, cells and answers.
+/// What a stored run lends at most: words of rows, cells and answers; and how many
+/// calls it has at most, for which `replay` has room.
 const ROOM: [u32; 3] = [49_152, 32_768, 16_384];
 const CODES: usize = 4_096;
 /// How long a text may be: of a run by hand, of one that chance made, of one that

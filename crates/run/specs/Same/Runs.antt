@@ -16,8 +16,7 @@ use Rattle.walk.specs.Reader.{Read, got, bad, Code, c_context, c_universe, c_inf
 use Rattle.walk.specs.Limits.{Sized, fits, scope_over, size_over, index_over, size_call}
 use Rattle.walk.specs.Run.{scope_of, Ran, run_read, run}
 use Rattle.walk.specs.Run as R
-use Rattle.syntax.specs.Told.{sized, size_of, size_in, told as scan_told, unless_long}
-use Rattle.syntax.specs.declared.scan.Scanned.TheVariants.{Calls as Scans}
+use Rattle.syntax.specs.Told.{calls_read, sized, size_of, size_in, told as scan_told, unless_long}
 use Rattle.syntax.specs.Ends.{run_fault}
 use Rattle.syntax.specs.Calls.{CallAt, CallsAt, no_more, next_call, RunIs, run_is as read_is}
 use Rattle.link.specs.Lists.{written}
@@ -139,7 +138,7 @@ module _ (bytes rows cells answers : List ℕ) where
         let n = said_calls calls (start limit rows cells) in
         rw (low_is (length calls) (omega arith), started_is limit rows cells I.header.high, played_is bytes short 2 0 calls I.all (omega arith) (start limit rows cells) answers, written [] (four_words (ask_all calls (start limit rows cells)).0) answers 0 refl (omega arith))
 
-    all_read : run_by (Scans limit (length calls)) bytes rows cells answers ≡ ended (run_read (length rows) (length cells) (length answers) (got (limit, calls) [] 0)) rows cells answers
+    all_read : run_by (calls_read limit (length calls)) bytes rows cells answers ≡ ended (run_read (length rows) (length cells) (length answers) (got (limit, calls) [] 0)) rows cells answers
     unfolding run_by run_read
     all_read = rw (enough (length calls)) (go (ltb (length answers) (4 * length calls)) refl)
       where

@@ -1,15 +1,8 @@
-use Rattle.ast.specs.Paths.{first_step, first_end}
-use Rattle.ast.proofs.Laws.{falls, half_of, look_search}
+use Rattle.std.proofs.Common.{rules}
+use Rattle.ast.specs.Cells.{same_look}
+use Rattle.ast.specs.Nodes.{find_look}
 use Rattle.ast.proofs.cells.find_look.Goals as goal
 
-pub loop-i-smaller : goal.loop-i-smaller
-loop-i-smaller c = falls _ _ _ _ c.loop-i-test.true c.next_cell-i.ensures
-
-pub loop-i-preserved : goal.loop-i-preserved
-loop-i-preserved c = rw (c.loop-i.invariant, first_step _ _ _ _ _ _ _ c.loop-i-test.true, ← c.same_look.ensures, c.if-same_look.false, ← c.next_cell-i.ensures, half_of)
-
 pub returns : goal.returns
-returns c = rw (look_search _ _ _ _ _ _, ← c.hash-h.ensures, c.loop-i.invariant, first_end _ _ _ _ _ _ _ c.loop-i-test.false)
-
-pub returns-then-same_look : goal.returns-then-same_look
-returns-then-same_look c = rw (look_search _ _ _ _ _ _, ← c.hash-h.ensures, c.loop-i.invariant, first_step _ _ _ _ _ _ _ c.loop-i-test.true, ← c.same_look.ensures, c.if-same_look.true)
+unfolding find_look
+returns c = rw (← c.node_hash-h.ensures) (c.first.ensures (same_look c.args.cells.now c.args.look.kind c.args.look.a c.args.look.b c.args.look.c) (λ i b l p. search rules))

@@ -24,4 +24,4 @@ returns-in_err-s1 t c = rw (law.max_in _ _ _ _ c.if-left-eq0.false, ← c.deeper
 pub returns : goal.returns
 unfolding max_body steps stated
 returns t c = rw (law.max_in _ _ _ _ c.if-left-eq0.false, ← c.deeper-s0.ensures, ne_eqb _ _ c.if-m-eq0.false, ne_eqb _ _ c.if-n-eq0.false, ← c.in_ok-s1.ensures, ← c.cite-2.ensures)
-    (rw (← c.greater.ensures, ← c.emit-2.ensures))
+    (rw (law.greater_is _ _, ← c.max-2.ensures, ← c.emit-2.ensures))

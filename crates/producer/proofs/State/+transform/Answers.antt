@@ -1,6 +1,7 @@
 -- Made by tools/prove.py: to make it again, run `python3 tools/prove.py producer`.
 use Rattle.std.proofs.Common.{◌≡◌, arith}
 use borrow.Author.Tests.{eq-eqb, ne_eqb}
+use Rattle.ast.specs.Words.{up}
 use Rattle.producer.specs.Transforms.{compound, transform_app, transform_binder, transform_body, transform_lam, transform_pair, transform_papp, transform_path, transform_plam, transform_projection, under_body, under_subst}
 use Rattle.producer.proofs.At as law
 use Rattle.producer.proofs.Steps.{steps, stated}
@@ -183,54 +184,53 @@ unfolding transform_body steps stated
 transform-returns t c = rw (law.transform_in _ _ _ _ c.if-left-eq0.false, ← c.deeper-s0.ensures, ← c.read-cell.ensures, ne_eqb _ _ c.if-cell-eq-VAR.false, ← c.compound.ensures)
 
 pub under-returns-then-left-eq0 : goal.under-returns-then-left-eq0
-unfolding under_body steps stated
+unfolding under_body up steps stated
 under-returns-then-left-eq0 t c = rw (law.under_none _ _ _ _ c.if-left-eq0.true, c.refused.ensures)
 
 pub under-returns-then-dimension : goal.under-returns-then-dimension
-unfolding under_body steps stated
+unfolding under_body up steps stated
 under-returns-then-dimension t c = rw (law.under_in _ _ _ _ c.if-left-eq0.false, ← c.deeper-s0.ensures, c.in-Shift.is, c.if-dimension.true, ← c.cite.ensures)
 
 pub under-returns-then-dimension-2 : goal.under-returns-then-dimension-2
-unfolding under_body steps stated
-under-returns-then-dimension-2 t c = rw (law.under_in _ _ _ _ c.if-left-eq0.false, ← c.deeper-s0.ensures, c.in-DShift.is, c.if-dimension-2.true, ← c.succ-then-dimension-2.ensures, ← c.cite-then-dimension-2.ensures)
+unfolding under_body up steps stated
+under-returns-then-dimension-2 t c = rw (law.under_in _ _ _ _ c.if-left-eq0.false, ← c.deeper-s0.ensures, c.in-DShift.is, c.if-dimension-2.true, ← c.cite-then-dimension-2.ensures)
 
 pub under-returns-in_err-s-in-DSubst : goal.under-returns-in_err-s-in-DSubst
-unfolding under_body steps stated
+unfolding under_body up steps stated
 under-returns-in_err-s-in-DSubst t c = rw (law.under_in _ _ _ _ c.if-left-eq0.false, ← c.deeper-s0.ensures, c.in-DSubst.is, c.if-dimension-3.true, law.residual _ _ c.from_residual.ensures.1, ← c.in_err-s-in-DSubst.ensures)
 
 pub under-returns-then-dimension-3 : goal.under-returns-then-dimension-3
-unfolding under_body steps stated
-under-returns-then-dimension-3 t c = rw (law.under_in _ _ _ _ c.if-left-eq0.false, ← c.deeper-s0.ensures, c.in-DSubst.is, c.if-dimension-3.true, ← c.in_ok-s-in-DSubst.ensures, ← c.succ-then-dimension-3.ensures)
-    (rw (← c.cite-then-dimension-3.ensures))
+unfolding under_body up steps stated
+under-returns-then-dimension-3 t c = rw (law.under_in _ _ _ _ c.if-left-eq0.false, ← c.deeper-s0.ensures, c.in-DSubst.is, c.if-dimension-3.true, ← c.in_ok-s-in-DSubst.ensures, ← c.cite-then-dimension-3.ensures)
 
 pub under-returns-else-dimension : goal.under-returns-else-dimension
-unfolding under_body steps stated
-under-returns-else-dimension t c = rw (law.under_in _ _ _ _ c.if-left-eq0.false, ← c.deeper-s0.ensures, c.in-Shift.is, c.if-dimension.false, ← c.succ.ensures, ← c.cite-in-Shift.ensures)
+unfolding under_body up steps stated
+under-returns-else-dimension t c = rw (law.under_in _ _ _ _ c.if-left-eq0.false, ← c.deeper-s0.ensures, c.in-Shift.is, c.if-dimension.false, ← c.cite-in-Shift.ensures)
 
 pub under-returns-in-Subst : goal.under-returns-in-Subst
-unfolding under_body steps stated
+unfolding under_body up steps stated
 under-returns-in-Subst t c = rw (law.under_in _ _ _ _ c.if-left-eq0.false, ← c.deeper-s0.ensures, c.in-Subst.is, ← c.under_subst.ensures)
 
 pub under-returns-else-dimension-2 : goal.under-returns-else-dimension-2
-unfolding under_body steps stated
+unfolding under_body up steps stated
 under-returns-else-dimension-2 t c = rw (law.under_in _ _ _ _ c.if-left-eq0.false, ← c.deeper-s0.ensures, c.in-DShift.is, c.if-dimension-2.false, ← c.cite-in-DShift.ensures)
 
 pub under-returns-else-dimension-3 : goal.under-returns-else-dimension-3
-unfolding under_body steps stated
+unfolding under_body up steps stated
 under-returns-else-dimension-3 t c = rw (law.under_in _ _ _ _ c.if-left-eq0.false, ← c.deeper-s0.ensures, c.in-DSubst.is, c.if-dimension-3.false, ← c.cite-in-DSubst.ensures)
 
 pub under_subst-returns-in_err-s : goal.under_subst-returns-in_err-s
-unfolding under_subst steps stated
+unfolding under_subst up steps stated
 under_subst-returns-in_err-s t c = rw (c.if-dimension.true, law.residual _ _ c.from_residual.ensures.1, ← c.in_err-s.ensures)
 
 pub under_subst-returns-then-dimension : goal.under_subst-returns-then-dimension
-unfolding under_subst steps stated
+unfolding under_subst up steps stated
 under_subst-returns-then-dimension t c = rw (c.if-dimension.true, ← c.in_ok-s.ensures, ← c.cite.ensures)
 
 pub under_subst-returns-in_err-s-2 : goal.under_subst-returns-in_err-s-2
-unfolding under_subst steps stated
+unfolding under_subst up steps stated
 under_subst-returns-in_err-s-2 t c = rw (c.if-dimension.false, law.residual _ _ c.from_residual-in_err-s-2.ensures.1, ← c.in_err-s-2.ensures)
 
 pub under_subst-returns : goal.under_subst-returns
-unfolding under_subst steps stated
-under_subst-returns t c = rw (c.if-dimension.false, ← c.in_ok-s-2.ensures, ← c.succ.ensures, ← c.cite-2.ensures)
+unfolding under_subst up steps stated
+under_subst-returns t c = rw (c.if-dimension.false, ← c.in_ok-s-2.ensures, ← c.cite-2.ensures)

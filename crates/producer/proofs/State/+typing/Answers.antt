@@ -1,6 +1,7 @@
 -- Made by tools/prove.py: to make it again, run `python3 tools/prove.py producer`.
 use Rattle.std.proofs.Common.{◌≡◌, arith}
 use borrow.Author.Tests.{eq-eqb, le-ltb, lt-ltb, ne_eqb}
+use Rattle.ast.specs.Words.{up}
 use Rattle.producer.specs.Equality.{at_end, at_ends, beta, equal_body, equal_normal, fst_beta, normalize_body, pbeta, reduce_body, reduce_papp, round, snd_beta}
 use Rattle.producer.specs.Machine.{known_or, known_row}
 use Rattle.producer.specs.Typing.{as_path, as_pi, as_sigma, check_body, converted, ctx_body, ctx_cons, expose_body, exposed, find, find_app, find_atom, find_binder, find_compound, find_fst, find_lam, find_pair, find_papp, find_path, find_plam, find_snd, find_var, headed, infer_body, new_infer, pair_typed, path_ends, plam_ends, retyped, universe_body}
@@ -123,27 +124,27 @@ ctx-returns-then-left-eq0 t c = rw (law.ctx_none _ _ _ _ c.if-left-eq0.true, c.r
 
 pub ctx-returns-then-cell-eq-NIL : goal.ctx-returns-then-cell-eq-NIL
 unfolding ctx_body known_row known_or ctx_cons steps stated
-ctx-returns-then-cell-eq-NIL t c = rw (law.ctx_in _ _ _ _ c.if-left-eq0.false, ← c.deeper-s0.ensures, ← c.read-cell.ensures, ← c.find_row.ensures, c.in-Nothing.is, eq-eqb _ _ c.if-cell-eq-NIL.true)
+ctx-returns-then-cell-eq-NIL t c = rw (law.ctx_in _ _ _ _ c.if-left-eq0.false, ← c.deeper-s0.ensures, ← c.read-cell.ensures, ← c.find_row.ensures, c.in-None.is, eq-eqb _ _ c.if-cell-eq-NIL.true)
     (rw (← c.cite.ensures, ← c.emit.ensures))
 
-pub ctx-returns-in_err-s1-in-Nothing : goal.ctx-returns-in_err-s1-in-Nothing
+pub ctx-returns-in_err-s1-in-None : goal.ctx-returns-in_err-s1-in-None
 unfolding ctx_body known_row known_or ctx_cons steps stated
-ctx-returns-in_err-s1-in-Nothing t c = rw (law.ctx_in _ _ _ _ c.if-left-eq0.false, ← c.deeper-s0.ensures, ← c.read-cell.ensures, ← c.find_row.ensures, c.in-Nothing.is, ne_eqb _ _ c.if-cell-eq-NIL.false)
-    (rw (law.residual _ _ c.from_residual.ensures.1, ← c.in_err-s1-in-Nothing.ensures))
+ctx-returns-in_err-s1-in-None t c = rw (law.ctx_in _ _ _ _ c.if-left-eq0.false, ← c.deeper-s0.ensures, ← c.read-cell.ensures, ← c.find_row.ensures, c.in-None.is, ne_eqb _ _ c.if-cell-eq-NIL.false)
+    (rw (law.residual _ _ c.from_residual.ensures.1, ← c.in_err-s1-in-None.ensures))
 
-pub ctx-returns-in_err-s2-in-Nothing : goal.ctx-returns-in_err-s2-in-Nothing
+pub ctx-returns-in_err-s2-in-None : goal.ctx-returns-in_err-s2-in-None
 unfolding ctx_body known_row known_or ctx_cons steps stated
-ctx-returns-in_err-s2-in-Nothing t c = rw (law.ctx_in _ _ _ _ c.if-left-eq0.false, ← c.deeper-s0.ensures, ← c.read-cell.ensures, ← c.find_row.ensures, c.in-Nothing.is, ne_eqb _ _ c.if-cell-eq-NIL.false)
-    (rw (← c.in_ok-s1-in-Nothing.ensures, law.residual _ _ c.from_residual-in_err-s2-in-Nothing.ensures.1, ← c.in_err-s2-in-Nothing.ensures))
+ctx-returns-in_err-s2-in-None t c = rw (law.ctx_in _ _ _ _ c.if-left-eq0.false, ← c.deeper-s0.ensures, ← c.read-cell.ensures, ← c.find_row.ensures, c.in-None.is, ne_eqb _ _ c.if-cell-eq-NIL.false)
+    (rw (← c.in_ok-s1-in-None.ensures, law.residual _ _ c.from_residual-in_err-s2-in-None.ensures.1, ← c.in_err-s2-in-None.ensures))
 
-pub ctx-returns-in-At : goal.ctx-returns-in-At
+pub ctx-returns-in-Some : goal.ctx-returns-in-Some
 unfolding ctx_body known_row known_or ctx_cons steps stated
-ctx-returns-in-At t c = rw (law.ctx_in _ _ _ _ c.if-left-eq0.false, ← c.deeper-s0.ensures, ← c.read-cell.ensures, ← c.find_row.ensures, c.in-At.is)
+ctx-returns-in-Some t c = rw (law.ctx_in _ _ _ _ c.if-left-eq0.false, ← c.deeper-s0.ensures, ← c.read-cell.ensures, ← c.find_row.ensures, c.in-Some.is)
 
-pub ctx-returns-in_ok-s2-in-Nothing : goal.ctx-returns-in_ok-s2-in-Nothing
+pub ctx-returns-in_ok-s2-in-None : goal.ctx-returns-in_ok-s2-in-None
 unfolding ctx_body known_row known_or ctx_cons steps stated
-ctx-returns-in_ok-s2-in-Nothing t c = rw (law.ctx_in _ _ _ _ c.if-left-eq0.false, ← c.deeper-s0.ensures, ← c.read-cell.ensures, ← c.find_row.ensures, c.in-Nothing.is, ne_eqb _ _ c.if-cell-eq-NIL.false)
-    (rw (← c.in_ok-s1-in-Nothing.ensures, ← c.in_ok-s2-in-Nothing.ensures, ← c.cite-in-Nothing.ensures, ← c.emit-in-Nothing.ensures))
+ctx-returns-in_ok-s2-in-None t c = rw (law.ctx_in _ _ _ _ c.if-left-eq0.false, ← c.deeper-s0.ensures, ← c.read-cell.ensures, ← c.find_row.ensures, c.in-None.is, ne_eqb _ _ c.if-cell-eq-NIL.false)
+    (rw (← c.in_ok-s1-in-None.ensures, ← c.in_ok-s2-in-None.ensures, ← c.cite-in-None.ensures, ← c.emit-in-None.ensures))
 
 pub equal-returns-then-left-eq0 : goal.equal-returns-then-left-eq0
 unfolding equal_body equal_normal steps stated
@@ -231,59 +232,59 @@ expose-returns t c = rw (law.expose_in _ _ _ _ _ _ _ c.if-left-eq0.false, ← c.
     (rw (c.if-same_quote.false, ← c.in_ok-s4.ensures, ← c.in_ok-s5.ensures, ← c.cite.ensures, ← c.in_ok-s6.ensures))
 
 pub find-returns-in-1 : goal.find-returns-in-1
-unfolding find find_compound steps stated
-find-returns-in-1 t c = rw (← c.read-cell.ensures, c.in-1.is, ← c.succ-up.ensures, ← c.atom.ensures)
+unfolding find find_compound up steps stated
+find-returns-in-1 t c = rw (← c.read-cell.ensures, c.in-1.is, ← c.atom.ensures)
 
 pub find-returns-in-2 : goal.find-returns-in-2
-unfolding find find_compound steps stated
+unfolding find find_compound up steps stated
 find-returns-in-2 t c = rw (← c.read-cell.ensures, c.in-2.is, ← c.var.ensures)
 
 pub find-returns-in-3 : goal.find-returns-in-3
-unfolding find find_compound steps stated
+unfolding find find_compound up steps stated
 find-returns-in-3 t c = rw (← c.read-cell.ensures, c.in-3.is, ← c.atom-in-3.ensures)
 
 pub find-returns-in-4 : goal.find-returns-in-4
-unfolding find find_compound steps stated
+unfolding find find_compound up steps stated
 find-returns-in-4 t c = rw (← c.read-cell.ensures, c.in-4.is, ← c.atom-in-4.ensures)
 
 pub find-returns-in-5 : goal.find-returns-in-5
-unfolding find find_compound steps stated
+unfolding find find_compound up steps stated
 find-returns-in-5 t c = rw (← c.read-cell.ensures, c.in-5.is, ← c.pi.ensures)
 
 pub find-returns-in-6 : goal.find-returns-in-6
-unfolding find find_compound steps stated
+unfolding find find_compound up steps stated
 find-returns-in-6 t c = rw (← c.read-cell.ensures, c.in-6.is, ← c.lam.ensures)
 
 pub find-returns-in-7 : goal.find-returns-in-7
-unfolding find find_compound steps stated
+unfolding find find_compound up steps stated
 find-returns-in-7 t c = rw (← c.read-cell.ensures, c.in-7.is, ← c.app.ensures)
 
 pub find-returns-in-8 : goal.find-returns-in-8
-unfolding find find_compound steps stated
+unfolding find find_compound up steps stated
 find-returns-in-8 t c = rw (← c.read-cell.ensures, c.in-8.is, ← c.path.ensures)
 
 pub find-returns-in-9 : goal.find-returns-in-9
-unfolding find find_compound steps stated
+unfolding find find_compound up steps stated
 find-returns-in-9 t c = rw (← c.read-cell.ensures, c.in-9.is, ← c.plam.ensures)
 
 pub find-returns-in-11 : goal.find-returns-in-11
-unfolding find find_compound steps stated
+unfolding find find_compound up steps stated
 find-returns-in-11 t c = rw (← c.read-cell.ensures, c.in-11.is, ← c.pi-in-11.ensures)
 
 pub find-returns-in-12 : goal.find-returns-in-12
-unfolding find find_compound steps stated
+unfolding find find_compound up steps stated
 find-returns-in-12 t c = rw (← c.read-cell.ensures, c.in-12.is, ← c.pair.ensures)
 
 pub find-returns-in-13 : goal.find-returns-in-13
-unfolding find find_compound steps stated
+unfolding find find_compound up steps stated
 find-returns-in-13 t c = rw (← c.read-cell.ensures, c.in-13.is, ← c.fst.ensures)
 
 pub find-returns-in-14 : goal.find-returns-in-14
-unfolding find find_compound steps stated
+unfolding find find_compound up steps stated
 find-returns-in-14 t c = rw (← c.read-cell.ensures, c.in-14.is, ← c.snd.ensures)
 
 pub find-returns-in_default : goal.find-returns-in_default
-unfolding find find_compound steps stated
+unfolding find find_compound up steps stated
 find-returns-in_default t c = rw (← c.read-cell.ensures, ne_eqb _ _ (let n : c.read-cell.result.kind ≡ 1 → ⊥ = omega arith in n), ne_eqb _ _ (let n : c.read-cell.result.kind ≡ 2 → ⊥ = omega arith in n), ne_eqb _ _ (let n : c.read-cell.result.kind ≡ 3 → ⊥ = omega arith in n), ne_eqb _ _ (let n : c.read-cell.result.kind ≡ 4 → ⊥ = omega arith in n), ne_eqb _ _ (let n : c.read-cell.result.kind ≡ 5 → ⊥ = omega arith in n))
     (rw (ne_eqb _ _ (let n : c.read-cell.result.kind ≡ 6 → ⊥ = omega arith in n), ne_eqb _ _ (let n : c.read-cell.result.kind ≡ 7 → ⊥ = omega arith in n), ne_eqb _ _ (let n : c.read-cell.result.kind ≡ 8 → ⊥ = omega arith in n), ne_eqb _ _ (let n : c.read-cell.result.kind ≡ 9 → ⊥ = omega arith in n), ne_eqb _ _ (let n : c.read-cell.result.kind ≡ 11 → ⊥ = omega arith in n), ne_eqb _ _ (let n : c.read-cell.result.kind ≡ 12 → ⊥ = omega arith in n))
     (rw (ne_eqb _ _ (let n : c.read-cell.result.kind ≡ 13 → ⊥ = omega arith in n), ne_eqb _ _ (let n : c.read-cell.result.kind ≡ 14 → ⊥ = omega arith in n), ← c.papp.ensures)))
@@ -325,28 +326,28 @@ pub infer-returns-then-left-eq0 : goal.infer-returns-then-left-eq0
 unfolding infer_body new_infer steps stated
 infer-returns-then-left-eq0 t c = rw (law.infer_none _ _ _ _ _ c.if-left-eq0.true, c.refused.ensures)
 
-pub infer-returns-in_err-s1-in-Unknown : goal.infer-returns-in_err-s1-in-Unknown
+pub infer-returns-in_err-s1-in-None : goal.infer-returns-in_err-s1-in-None
 unfolding infer_body new_infer steps stated
-infer-returns-in_err-s1-in-Unknown t c = rw (law.infer_in _ _ _ _ _ c.if-left-eq0.false, ← c.deeper-s0.ensures, ← c.recall.ensures, c.in-Unknown.is, law.residual _ _ c.from_residual.ensures.1, ← c.in_err-s1-in-Unknown.ensures)
+infer-returns-in_err-s1-in-None t c = rw (law.infer_in _ _ _ _ _ c.if-left-eq0.false, ← c.deeper-s0.ensures, ← c.recall.ensures, c.in-None.is, law.residual _ _ c.from_residual.ensures.1, ← c.in_err-s1-in-None.ensures)
 
-pub infer-returns-in_err-s2-in-Unknown : goal.infer-returns-in_err-s2-in-Unknown
+pub infer-returns-in_err-s2-in-None : goal.infer-returns-in_err-s2-in-None
 unfolding infer_body new_infer steps stated
-infer-returns-in_err-s2-in-Unknown t c = rw (law.infer_in _ _ _ _ _ c.if-left-eq0.false, ← c.deeper-s0.ensures, ← c.recall.ensures, c.in-Unknown.is, ← c.in_ok-s1-in-Unknown.ensures, law.residual _ _ c.from_residual-in_err-s2-in-Unknown.ensures.1)
-    (rw (← c.in_err-s2-in-Unknown.ensures))
+infer-returns-in_err-s2-in-None t c = rw (law.infer_in _ _ _ _ _ c.if-left-eq0.false, ← c.deeper-s0.ensures, ← c.recall.ensures, c.in-None.is, ← c.in_ok-s1-in-None.ensures, law.residual _ _ c.from_residual-in_err-s2-in-None.ensures.1)
+    (rw (← c.in_err-s2-in-None.ensures))
 
-pub infer-returns-in_err-s3-in-Unknown : goal.infer-returns-in_err-s3-in-Unknown
+pub infer-returns-in_err-s3-in-None : goal.infer-returns-in_err-s3-in-None
 unfolding infer_body new_infer steps stated
-infer-returns-in_err-s3-in-Unknown t c = rw (law.infer_in _ _ _ _ _ c.if-left-eq0.false, ← c.deeper-s0.ensures, ← c.recall.ensures, c.in-Unknown.is, ← c.in_ok-s1-in-Unknown.ensures, ← c.in_ok-s2-in-Unknown.ensures)
-    (rw (law.residual _ _ c.from_residual-in_err-s3-in-Unknown.ensures.1, ← c.in_err-s3-in-Unknown.ensures))
+infer-returns-in_err-s3-in-None t c = rw (law.infer_in _ _ _ _ _ c.if-left-eq0.false, ← c.deeper-s0.ensures, ← c.recall.ensures, c.in-None.is, ← c.in_ok-s1-in-None.ensures, ← c.in_ok-s2-in-None.ensures)
+    (rw (law.residual _ _ c.from_residual-in_err-s3-in-None.ensures.1, ← c.in_err-s3-in-None.ensures))
 
-pub infer-returns-in-Known : goal.infer-returns-in-Known
+pub infer-returns-in-Some : goal.infer-returns-in-Some
 unfolding infer_body new_infer steps stated
-infer-returns-in-Known t c = rw (law.infer_in _ _ _ _ _ c.if-left-eq0.false, ← c.deeper-s0.ensures, ← c.recall.ensures, c.in-Known.is)
+infer-returns-in-Some t c = rw (law.infer_in _ _ _ _ _ c.if-left-eq0.false, ← c.deeper-s0.ensures, ← c.recall.ensures, c.in-Some.is)
 
-pub infer-returns-in_ok-s3-in-Unknown : goal.infer-returns-in_ok-s3-in-Unknown
+pub infer-returns-in_ok-s3-in-None : goal.infer-returns-in_ok-s3-in-None
 unfolding infer_body new_infer steps stated
-infer-returns-in_ok-s3-in-Unknown t c = rw (law.infer_in _ _ _ _ _ c.if-left-eq0.false, ← c.deeper-s0.ensures, ← c.recall.ensures, c.in-Unknown.is, ← c.in_ok-s1-in-Unknown.ensures, ← c.in_ok-s2-in-Unknown.ensures)
-    (rw (← c.in_ok-s3-in-Unknown.ensures))
+infer-returns-in_ok-s3-in-None t c = rw (law.infer_in _ _ _ _ _ c.if-left-eq0.false, ← c.deeper-s0.ensures, ← c.recall.ensures, c.in-None.is, ← c.in_ok-s1-in-None.ensures, ← c.in_ok-s2-in-None.ensures)
+    (rw (← c.in_ok-s3-in-None.ensures))
 
 pub lam-returns-in_err-s1 : goal.lam-returns-in_err-s1
 unfolding find_lam steps stated
@@ -499,40 +500,39 @@ papp-returns t c = rw (← c.in_ok-s1.ensures, ← c.shape_of.ensures, c.in-Path
     (rw (← c.cite.ensures))
 
 pub path-returns-in_err-s1 : goal.path-returns-in_err-s1
-unfolding find_path path_ends steps stated
+unfolding find_path path_ends up steps stated
 path-returns-in_err-s1 t c = rw (law.residual _ _ c.from_residual.ensures.1, ← c.in_err-s1.ensures)
 
 pub path-returns-in_err-s2 : goal.path-returns-in_err-s2
-unfolding find_path path_ends steps stated
+unfolding find_path path_ends up steps stated
 path-returns-in_err-s2 t c = rw (← c.in_ok-s1.ensures, law.residual _ _ c.from_residual-in_err-s2.ensures.1, ← c.in_err-s2.ensures)
 
 pub path-returns-in_err-s3 : goal.path-returns-in_err-s3
-unfolding find_path path_ends steps stated
-path-returns-in_err-s3 t c = rw (← c.in_ok-s1.ensures, ← c.in_ok-s2.ensures, ← c.succ-up.ensures, law.residual _ _ c.from_residual-in_err-s3.ensures.1, ← c.in_err-s3.ensures)
+unfolding find_path path_ends up steps stated
+path-returns-in_err-s3 t c = rw (← c.in_ok-s1.ensures, ← c.in_ok-s2.ensures, law.residual _ _ c.from_residual-in_err-s3.ensures.1, ← c.in_err-s3.ensures)
 
 pub path-returns-in_err-s4 : goal.path-returns-in_err-s4
-unfolding find_path path_ends steps stated
-path-returns-in_err-s4 t c = rw (← c.in_ok-s1.ensures, ← c.in_ok-s2.ensures, ← c.succ-up.ensures, ← c.in_ok-s3.ensures, law.residual _ _ c.from_residual-in_err-s4.ensures.1, ← c.in_err-s4.ensures)
+unfolding find_path path_ends up steps stated
+path-returns-in_err-s4 t c = rw (← c.in_ok-s1.ensures, ← c.in_ok-s2.ensures, ← c.in_ok-s3.ensures, law.residual _ _ c.from_residual-in_err-s4.ensures.1, ← c.in_err-s4.ensures)
 
 pub path-returns-in_err-s5 : goal.path-returns-in_err-s5
-unfolding find_path path_ends steps stated
-path-returns-in_err-s5 t c = rw (← c.in_ok-s1.ensures, ← c.in_ok-s2.ensures, ← c.succ-up.ensures, ← c.in_ok-s3.ensures, ← c.in_ok-s4.ensures, law.residual _ _ c.from_residual-in_err-s5.ensures.1)
-    (rw (← c.in_err-s5.ensures))
+unfolding find_path path_ends up steps stated
+path-returns-in_err-s5 t c = rw (← c.in_ok-s1.ensures, ← c.in_ok-s2.ensures, ← c.in_ok-s3.ensures, ← c.in_ok-s4.ensures, law.residual _ _ c.from_residual-in_err-s5.ensures.1, ← c.in_err-s5.ensures)
 
 pub path-returns-in_err-s6 : goal.path-returns-in_err-s6
-unfolding find_path path_ends steps stated
-path-returns-in_err-s6 t c = rw (← c.in_ok-s1.ensures, ← c.in_ok-s2.ensures, ← c.succ-up.ensures, ← c.in_ok-s3.ensures, ← c.in_ok-s4.ensures, ← c.in_ok-s5.ensures)
-    (rw (law.residual _ _ c.from_residual-in_err-s6.ensures.1, ← c.in_err-s6.ensures))
+unfolding find_path path_ends up steps stated
+path-returns-in_err-s6 t c = rw (← c.in_ok-s1.ensures, ← c.in_ok-s2.ensures, ← c.in_ok-s3.ensures, ← c.in_ok-s4.ensures, ← c.in_ok-s5.ensures, law.residual _ _ c.from_residual-in_err-s6.ensures.1)
+    (rw (← c.in_err-s6.ensures))
 
 pub path-returns-in_err-s7 : goal.path-returns-in_err-s7
-unfolding find_path path_ends steps stated
-path-returns-in_err-s7 t c = rw (← c.in_ok-s1.ensures, ← c.in_ok-s2.ensures, ← c.succ-up.ensures, ← c.in_ok-s3.ensures, ← c.in_ok-s4.ensures, ← c.in_ok-s5.ensures)
-    (rw (← c.in_ok-s6.ensures, law.residual _ _ c.from_residual-in_err-s7.ensures.1, ← c.in_err-s7.ensures))
+unfolding find_path path_ends up steps stated
+path-returns-in_err-s7 t c = rw (← c.in_ok-s1.ensures, ← c.in_ok-s2.ensures, ← c.in_ok-s3.ensures, ← c.in_ok-s4.ensures, ← c.in_ok-s5.ensures, ← c.in_ok-s6.ensures)
+    (rw (law.residual _ _ c.from_residual-in_err-s7.ensures.1, ← c.in_err-s7.ensures))
 
 pub path-returns : goal.path-returns
-unfolding find_path path_ends steps stated
-path-returns t c = rw (← c.in_ok-s1.ensures, ← c.in_ok-s2.ensures, ← c.succ-up.ensures, ← c.in_ok-s3.ensures, ← c.in_ok-s4.ensures, ← c.in_ok-s5.ensures)
-    (rw (← c.in_ok-s6.ensures, ← c.in_ok-s7.ensures, ← c.cite.ensures))
+unfolding find_path path_ends up steps stated
+path-returns t c = rw (← c.in_ok-s1.ensures, ← c.in_ok-s2.ensures, ← c.in_ok-s3.ensures, ← c.in_ok-s4.ensures, ← c.in_ok-s5.ensures, ← c.in_ok-s6.ensures)
+    (rw (← c.in_ok-s7.ensures, ← c.cite.ensures))
 
 pub pbeta-returns-in_err-s1 : goal.pbeta-returns-in_err-s1
 unfolding pbeta steps stated
@@ -572,59 +572,58 @@ pi-returns-in_err-s4 t c = rw (← c.in_ok-s1.ensures, ← c.in_ok-s2.ensures, �
 
 pub pi-returns-in_err-s5 : goal.pi-returns-in_err-s5
 unfolding find_binder steps stated
-pi-returns-in_err-s5 t c = rw (← c.in_ok-s1.ensures, ← c.in_ok-s2.ensures, ← c.in_ok-s3.ensures, ← c.in_ok-s4.ensures, ← c.greater-top.ensures, law.residual _ _ c.from_residual-in_err-s5.ensures.1)
-    (rw (← c.in_err-s5.ensures))
+pi-returns-in_err-s5 t c = rw (← c.in_ok-s1.ensures, ← c.in_ok-s2.ensures, ← c.in_ok-s3.ensures, ← c.in_ok-s4.ensures, law.greater_is _ _, ← c.max-top.ensures)
+    (rw (law.residual _ _ c.from_residual-in_err-s5.ensures.1, ← c.in_err-s5.ensures))
 
 pub pi-returns : goal.pi-returns
 unfolding find_binder steps stated
-pi-returns t c = rw (← c.in_ok-s1.ensures, ← c.in_ok-s2.ensures, ← c.in_ok-s3.ensures, ← c.in_ok-s4.ensures, ← c.greater-top.ensures, ← c.in_ok-s5.ensures)
-    (rw (← c.cite.ensures))
+pi-returns t c = rw (← c.in_ok-s1.ensures, ← c.in_ok-s2.ensures, ← c.in_ok-s3.ensures, ← c.in_ok-s4.ensures, law.greater_is _ _, ← c.max-top.ensures)
+    (rw (← c.in_ok-s5.ensures, ← c.cite.ensures))
 
 pub plam-returns-in_err-s1 : goal.plam-returns-in_err-s1
-unfolding find_plam plam_ends steps stated
+unfolding find_plam plam_ends up steps stated
 plam-returns-in_err-s1 t c = rw (law.residual _ _ c.from_residual.ensures.1, ← c.in_err-s1.ensures)
 
 pub plam-returns-in_err-s2 : goal.plam-returns-in_err-s2
-unfolding find_plam plam_ends steps stated
+unfolding find_plam plam_ends up steps stated
 plam-returns-in_err-s2 t c = rw (← c.in_ok-s1.ensures, law.residual _ _ c.from_residual-in_err-s2.ensures.1, ← c.in_err-s2.ensures)
 
 pub plam-returns-in_err-s3 : goal.plam-returns-in_err-s3
-unfolding find_plam plam_ends steps stated
-plam-returns-in_err-s3 t c = rw (← c.in_ok-s1.ensures, ← c.in_ok-s2.ensures, ← c.succ-up.ensures, law.residual _ _ c.from_residual-in_err-s3.ensures.1, ← c.in_err-s3.ensures)
+unfolding find_plam plam_ends up steps stated
+plam-returns-in_err-s3 t c = rw (← c.in_ok-s1.ensures, ← c.in_ok-s2.ensures, law.residual _ _ c.from_residual-in_err-s3.ensures.1, ← c.in_err-s3.ensures)
 
 pub plam-returns-in_err-s4 : goal.plam-returns-in_err-s4
-unfolding find_plam plam_ends steps stated
-plam-returns-in_err-s4 t c = rw (← c.in_ok-s1.ensures, ← c.in_ok-s2.ensures, ← c.succ-up.ensures, ← c.in_ok-s3.ensures, law.residual _ _ c.from_residual-in_err-s4.ensures.1, ← c.in_err-s4.ensures)
+unfolding find_plam plam_ends up steps stated
+plam-returns-in_err-s4 t c = rw (← c.in_ok-s1.ensures, ← c.in_ok-s2.ensures, ← c.in_ok-s3.ensures, law.residual _ _ c.from_residual-in_err-s4.ensures.1, ← c.in_err-s4.ensures)
 
 pub plam-returns-in_err-s5 : goal.plam-returns-in_err-s5
-unfolding find_plam plam_ends steps stated
-plam-returns-in_err-s5 t c = rw (← c.in_ok-s1.ensures, ← c.in_ok-s2.ensures, ← c.succ-up.ensures, ← c.in_ok-s3.ensures, ← c.in_ok-s4.ensures, law.residual _ _ c.from_residual-in_err-s5.ensures.1)
-    (rw (← c.in_err-s5.ensures))
+unfolding find_plam plam_ends up steps stated
+plam-returns-in_err-s5 t c = rw (← c.in_ok-s1.ensures, ← c.in_ok-s2.ensures, ← c.in_ok-s3.ensures, ← c.in_ok-s4.ensures, law.residual _ _ c.from_residual-in_err-s5.ensures.1, ← c.in_err-s5.ensures)
 
 pub plam-returns-in_err-s6 : goal.plam-returns-in_err-s6
-unfolding find_plam plam_ends steps stated
-plam-returns-in_err-s6 t c = rw (← c.in_ok-s1.ensures, ← c.in_ok-s2.ensures, ← c.succ-up.ensures, ← c.in_ok-s3.ensures, ← c.in_ok-s4.ensures, ← c.in_ok-s5.ensures)
-    (rw (law.residual _ _ c.from_residual-in_err-s6.ensures.1, ← c.in_err-s6.ensures))
+unfolding find_plam plam_ends up steps stated
+plam-returns-in_err-s6 t c = rw (← c.in_ok-s1.ensures, ← c.in_ok-s2.ensures, ← c.in_ok-s3.ensures, ← c.in_ok-s4.ensures, ← c.in_ok-s5.ensures, law.residual _ _ c.from_residual-in_err-s6.ensures.1)
+    (rw (← c.in_err-s6.ensures))
 
 pub plam-returns-in_err-s7 : goal.plam-returns-in_err-s7
-unfolding find_plam plam_ends steps stated
-plam-returns-in_err-s7 t c = rw (← c.in_ok-s1.ensures, ← c.in_ok-s2.ensures, ← c.succ-up.ensures, ← c.in_ok-s3.ensures, ← c.in_ok-s4.ensures, ← c.in_ok-s5.ensures)
-    (rw (← c.in_ok-s6.ensures, law.residual _ _ c.from_residual-in_err-s7.ensures.1, ← c.in_err-s7.ensures))
+unfolding find_plam plam_ends up steps stated
+plam-returns-in_err-s7 t c = rw (← c.in_ok-s1.ensures, ← c.in_ok-s2.ensures, ← c.in_ok-s3.ensures, ← c.in_ok-s4.ensures, ← c.in_ok-s5.ensures, ← c.in_ok-s6.ensures)
+    (rw (law.residual _ _ c.from_residual-in_err-s7.ensures.1, ← c.in_err-s7.ensures))
 
 pub plam-returns-in_err-s8 : goal.plam-returns-in_err-s8
-unfolding find_plam plam_ends steps stated
-plam-returns-in_err-s8 t c = rw (← c.in_ok-s1.ensures, ← c.in_ok-s2.ensures, ← c.succ-up.ensures, ← c.in_ok-s3.ensures, ← c.in_ok-s4.ensures, ← c.in_ok-s5.ensures)
-    (rw (← c.in_ok-s6.ensures, ← c.in_ok-s7.ensures, law.residual _ _ c.from_residual-in_err-s8.ensures.1, ← c.in_err-s8.ensures))
+unfolding find_plam plam_ends up steps stated
+plam-returns-in_err-s8 t c = rw (← c.in_ok-s1.ensures, ← c.in_ok-s2.ensures, ← c.in_ok-s3.ensures, ← c.in_ok-s4.ensures, ← c.in_ok-s5.ensures, ← c.in_ok-s6.ensures)
+    (rw (← c.in_ok-s7.ensures, law.residual _ _ c.from_residual-in_err-s8.ensures.1, ← c.in_err-s8.ensures))
 
 pub plam-returns-in_err-s9 : goal.plam-returns-in_err-s9
-unfolding find_plam plam_ends steps stated
-plam-returns-in_err-s9 t c = rw (← c.in_ok-s1.ensures, ← c.in_ok-s2.ensures, ← c.succ-up.ensures, ← c.in_ok-s3.ensures, ← c.in_ok-s4.ensures, ← c.in_ok-s5.ensures)
-    (rw (← c.in_ok-s6.ensures, ← c.in_ok-s7.ensures, ← c.in_ok-s8.ensures, law.residual _ _ c.from_residual-in_err-s9.ensures.1, ← c.in_err-s9.ensures))
+unfolding find_plam plam_ends up steps stated
+plam-returns-in_err-s9 t c = rw (← c.in_ok-s1.ensures, ← c.in_ok-s2.ensures, ← c.in_ok-s3.ensures, ← c.in_ok-s4.ensures, ← c.in_ok-s5.ensures, ← c.in_ok-s6.ensures)
+    (rw (← c.in_ok-s7.ensures, ← c.in_ok-s8.ensures, law.residual _ _ c.from_residual-in_err-s9.ensures.1, ← c.in_err-s9.ensures))
 
 pub plam-returns : goal.plam-returns
-unfolding find_plam plam_ends steps stated
-plam-returns t c = rw (← c.in_ok-s1.ensures, ← c.in_ok-s2.ensures, ← c.succ-up.ensures, ← c.in_ok-s3.ensures, ← c.in_ok-s4.ensures, ← c.in_ok-s5.ensures)
-    (rw (← c.in_ok-s6.ensures, ← c.in_ok-s7.ensures, ← c.in_ok-s8.ensures, ← c.in_ok-s9.ensures, ← c.cite.ensures))
+unfolding find_plam plam_ends up steps stated
+plam-returns t c = rw (← c.in_ok-s1.ensures, ← c.in_ok-s2.ensures, ← c.in_ok-s3.ensures, ← c.in_ok-s4.ensures, ← c.in_ok-s5.ensures, ← c.in_ok-s6.ensures)
+    (rw (← c.in_ok-s7.ensures, ← c.in_ok-s8.ensures, ← c.in_ok-s9.ensures, ← c.cite.ensures))
 
 pub reduce-returns-then-left-eq0 : goal.reduce-returns-then-left-eq0
 unfolding reduce_body fst_beta snd_beta as_sigma steps stated
@@ -791,6 +790,10 @@ pub turns-returns-in_default : goal.turns-returns-in_default
 unfolding steps stated
 turns-returns-in_default t c = rw (c.loop.invariant.1, law.rounds_turn _ _ _ _ _ _ _ _ _ c.loop-test.true, ← c.in_ok-s1.ensures, c.in_default.is)
 
+pub turns-loop-preserved : goal.turns-loop-preserved
+unfolding steps stated
+turns-loop-preserved t c = (omega arith, rw (c.loop.invariant.1, law.rounds_turn _ _ _ _ _ _ _ _ _ c.loop-test.true, ← c.in_ok-s1.ensures, c.in-Some.is))
+
 pub turns-returns-in_err-s1-2 : goal.turns-returns-in_err-s1-2
 unfolding steps stated
 turns-returns-in_err-s1-2 t c = rw (c.loop.invariant.1, law.rounds_over _ _ _ _ _ _ _ _ _ c.loop-test.false, law.residual _ _ c.from_residual-in_err-s1-2.ensures.1, ← c.in_err-s1-2.ensures)
@@ -802,10 +805,6 @@ turns-returns-in-Some-further t c = rw (c.loop.invariant.1, law.rounds_over _ _ 
 pub turns-returns-in-None : goal.turns-returns-in-None
 unfolding steps stated
 turns-returns-in-None t c = rw (c.loop.invariant.1, law.rounds_over _ _ _ _ _ _ _ _ _ c.loop-test.false, ← c.in_ok-s1-2.ensures, c.in-None.is)
-
-pub turns-loop-preserved : goal.turns-loop-preserved
-unfolding steps stated
-turns-loop-preserved t c = (omega arith, rw (c.loop.invariant.1, law.rounds_turn _ _ _ _ _ _ _ _ _ c.loop-test.true, ← c.in_ok-s1.ensures, c.in-Some.is))
 
 pub universe-returns-then-left-eq0 : goal.universe-returns-then-left-eq0
 unfolding universe_body steps stated

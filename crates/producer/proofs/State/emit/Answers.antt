@@ -7,14 +7,14 @@ use Rattle.producer.proofs.State.emit.Goals as goal
 pub returns-then-n-self : goal.returns-then-n-self
 unfolding emit_as emit_words emit steps known_row known_or new_row add_row
 returns-then-n-self c =
-    rw (← c.words-kind.ensures, ← c.find_row.ensures, c.in-Nothing.is, lt-ltb _ _ c.if-n-self.true, ← c.link_row.ensures, ← c.number.ensures)
+    rw (← c.words-kind.ensures, ← c.find_row.ensures, c.in-None.is, lt-ltb _ _ c.if-n-self.true, ← c.link_row.ensures, ← c.number.ensures)
     (rw (← c.put_row.ensures))
 
-pub returns-in-At : goal.returns-in-At
+pub returns-in-Some : goal.returns-in-Some
 unfolding emit_as emit_words emit steps known_row known_or
-returns-in-At c = rw (← c.words-kind.ensures, ← c.find_row.ensures, c.in-At.is)
+returns-in-Some c = rw (← c.words-kind.ensures, ← c.find_row.ensures, c.in-Some.is)
 
 pub returns-else-n-self : goal.returns-else-n-self
 unfolding emit_as emit_words emit steps known_row known_or new_row
 returns-else-n-self c =
-    rw (← c.words-kind.ensures, ← c.find_row.ensures, c.in-Nothing.is, le-ltb _ _ c.if-n-self.false, c.refused.ensures)
+    rw (← c.words-kind.ensures, ← c.find_row.ensures, c.in-None.is, le-ltb _ _ c.if-n-self.false, c.refused.ensures)

@@ -4,6 +4,7 @@ use borrow.Author.Tests.{ne_eqb}
 use Rattle.run.specs.Build.{built_body, built_one, built_three, built_two}
 use Rattle.run.proofs.At as law
 use Rattle.run.proofs.Steps.{steps}
+use Rattle.ast.proofs.Laws.{up_is}
 use Rattle.run.proofs.build.+build.Goals as goal
 
 pub build-returns-then-left-eq0 : goal.build-returns-then-left-eq0
@@ -12,39 +13,39 @@ build-returns-then-left-eq0 t c = rw (law.built_none _ _ _ _ c.if-left-eq0.true)
 
 pub build-returns-in-Is : goal.build-returns-in-Is
 unfolding built_body steps
-build-returns-in-Is t c = rw (law.built_in _ _ _ _ c.if-left-eq0.false, ← c.byte-kind.ensures, ← c.succ-next.ensures, ← c.parts-shape.ensures, c.in-1.is, ← c.intern.ensures)
+build-returns-in-Is t c = rw (law.built_in _ _ _ _ c.if-left-eq0.false, ← c.byte-kind.ensures, up_is _, ← c.parts-shape.ensures, c.in-1.is, ← c.intern.ensures)
     (rw (c.in-Is.is))
 
 pub build-returns-in-Refused : goal.build-returns-in-Refused
 unfolding built_body steps
-build-returns-in-Refused t c = rw (law.built_in _ _ _ _ c.if-left-eq0.false, ← c.byte-kind.ensures, ← c.succ-next.ensures, ← c.parts-shape.ensures, c.in-1.is, ← c.intern.ensures)
+build-returns-in-Refused t c = rw (law.built_in _ _ _ _ c.if-left-eq0.false, ← c.byte-kind.ensures, up_is _, ← c.parts-shape.ensures, c.in-1.is, ← c.intern.ensures)
     (rw (c.in-Refused.is))
 
 pub build-returns-in-Is-intern : goal.build-returns-in-Is-intern
 unfolding built_body steps
-build-returns-in-Is-intern t c = rw (law.built_in _ _ _ _ c.if-left-eq0.false, ← c.byte-kind.ensures, ← c.succ-next.ensures, ← c.parts-shape.ensures, c.in-2.is, ← c.byte-number.ensures)
-    (rw (← c.succ-past.ensures, ← c.intern-in-2.ensures, c.in-Is-intern.is))
+build-returns-in-Is-intern t c = rw (law.built_in _ _ _ _ c.if-left-eq0.false, ← c.byte-kind.ensures, up_is _, ← c.parts-shape.ensures, c.in-2.is, ← c.byte-number.ensures)
+    (rw (up_is _, ← c.intern-in-2.ensures, c.in-Is-intern.is))
 
 pub build-returns-in-Refused-intern : goal.build-returns-in-Refused-intern
 unfolding built_body steps
-build-returns-in-Refused-intern t c = rw (law.built_in _ _ _ _ c.if-left-eq0.false, ← c.byte-kind.ensures, ← c.succ-next.ensures, ← c.parts-shape.ensures, c.in-2.is, ← c.byte-number.ensures)
-    (rw (← c.succ-past.ensures, ← c.intern-in-2.ensures, c.in-Refused-intern.is))
+build-returns-in-Refused-intern t c = rw (law.built_in _ _ _ _ c.if-left-eq0.false, ← c.byte-kind.ensures, up_is _, ← c.parts-shape.ensures, c.in-2.is, ← c.byte-number.ensures)
+    (rw (up_is _, ← c.intern-in-2.ensures, c.in-Refused-intern.is))
 
 pub build-returns-in-3 : goal.build-returns-in-3
 unfolding built_body steps
-build-returns-in-3 t c = rw (law.built_in _ _ _ _ c.if-left-eq0.false, ← c.byte-kind.ensures, ← c.succ-next.ensures, ← c.parts-shape.ensures, c.in-3.is, ← c.one.ensures)
+build-returns-in-3 t c = rw (law.built_in _ _ _ _ c.if-left-eq0.false, ← c.byte-kind.ensures, up_is _, ← c.parts-shape.ensures, c.in-3.is, ← c.one.ensures)
 
 pub build-returns-in-4 : goal.build-returns-in-4
 unfolding built_body steps
-build-returns-in-4 t c = rw (law.built_in _ _ _ _ c.if-left-eq0.false, ← c.byte-kind.ensures, ← c.succ-next.ensures, ← c.parts-shape.ensures, c.in-4.is, ← c.two.ensures)
+build-returns-in-4 t c = rw (law.built_in _ _ _ _ c.if-left-eq0.false, ← c.byte-kind.ensures, up_is _, ← c.parts-shape.ensures, c.in-4.is, ← c.two.ensures)
 
 pub build-returns-in-5 : goal.build-returns-in-5
 unfolding built_body steps
-build-returns-in-5 t c = rw (law.built_in _ _ _ _ c.if-left-eq0.false, ← c.byte-kind.ensures, ← c.succ-next.ensures, ← c.parts-shape.ensures, c.in-5.is, ← c.three.ensures)
+build-returns-in-5 t c = rw (law.built_in _ _ _ _ c.if-left-eq0.false, ← c.byte-kind.ensures, up_is _, ← c.parts-shape.ensures, c.in-5.is, ← c.three.ensures)
 
 pub build-returns : goal.build-returns
 unfolding built_body steps
-build-returns t c = rw (law.built_in _ _ _ _ c.if-left-eq0.false, ← c.byte-kind.ensures, ← c.succ-next.ensures, ← c.parts-shape.ensures, ne_eqb _ _ (let n : c.parts-shape.result ≡ 1 → ⊥ = omega arith in n), ne_eqb _ _ (let n : c.parts-shape.result ≡ 2 → ⊥ = omega arith in n))
+build-returns t c = rw (law.built_in _ _ _ _ c.if-left-eq0.false, ← c.byte-kind.ensures, up_is _, ← c.parts-shape.ensures, ne_eqb _ _ (let n : c.parts-shape.result ≡ 1 → ⊥ = omega arith in n), ne_eqb _ _ (let n : c.parts-shape.result ≡ 2 → ⊥ = omega arith in n))
     (rw (ne_eqb _ _ (let n : c.parts-shape.result ≡ 3 → ⊥ = omega arith in n), ne_eqb _ _ (let n : c.parts-shape.result ≡ 4 → ⊥ = omega arith in n), ne_eqb _ _ (let n : c.parts-shape.result ≡ 5 → ⊥ = omega arith in n)))
 
 pub one-returns-in_default : goal.one-returns-in_default

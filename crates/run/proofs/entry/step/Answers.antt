@@ -3,7 +3,7 @@ use Rattle.run.proofs.At as law
 use Rattle.run.proofs.Steps.{steps}
 use Rattle.run.proofs.entry.step.Goals as goal
 
-pub returns-in-Fits : goal.returns-in-Fits
+pub returns-in-Ok : goal.returns-in-Ok
 unfolding turned turned_by steps
-returns-in-Fits c = rw (← c.size_call-size.ensures, c.in-Fits.is, ← c.begin-s.ensures, ← c.low-from.ensures, ← c.call-q.ensures, c.answered.ensures)
-    (rw (law.told_end _ _ _ _))
+returns-in-Ok c = rw (← c.size_call.ensures, c.in-Ok.is, ← c.begin-s.ensures, ← c.low-from.ensures, ← c.call.ensures, c.answered.ensures)
+    (rw (law.told_end _ _ _))

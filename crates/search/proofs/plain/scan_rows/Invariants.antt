@@ -5,6 +5,3 @@ use Rattle.search.proofs.plain.scan_rows.Given as goal
 
 abbrev pub invariant-loop-i : goal.invariant-loop-i
 invariant-loop-i l = last_of (row_is l.rows l.cells l.m l.wanted) l.n ≡ last_of (row_is l.rows l.cells l.m l.wanted) l.i
-
-abbrev pub decreases-loop-i : goal.decreases-loop-i
-decreases-loop-i l = l.i

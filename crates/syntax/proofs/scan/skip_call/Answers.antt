@@ -1,19 +1,7 @@
 -- The head, then the terms.
-use Rattle.std.proofs.Common.{◌∙◌, sym, arith, lt-ltb, le-ltb}
-use Rattle.syntax.specs.Told.{next_in}
-use Rattle.syntax.proofs.Terms.{call_no_head, call_on, inside, same_in}
+use Rattle.std.proofs.Common.{arith}
+use Rattle.syntax.proofs.Terms.{inside}
 use Rattle.syntax.proofs.scan.skip_call.Goals as goal
 
-pub returns-then-stack-s : goal.returns-then-stack-s
-unfolding next_in
-returns-then-stack-s c = simp (lt-ltb _ _ c.if-stack-s.true)
-
 pub overflow_add-from : goal.overflow_add-from
-overflow_add-from c = omega (arith, inside c.args.s.now c.args.from _ c.in-Is.ensures)
-
-pub returns-in-Bad : goal.returns-in-Bad
-unfolding next_in
-returns-in-Bad c = rw (le-ltb _ _ c.if-stack-s.false, call_no_head _ _ _ c.in-Bad.ensures)
-
-pub returns-in-Is : goal.returns-in-Is
-returns-in-Is c = c.skip_terms.ensures ∙ rw c.terms_after.ensures (same_in _ _ _ (sym (call_on c.args.s.now c.args.from _ c.in-Is.ensures)))
+overflow_add-from c = omega (arith, inside c.args.s.now c.args.from _ c.in_ok-head.ensures)

@@ -1,9 +1,10 @@
 -- A number's digits but the last are those of a tenth of it.
 use Rattle.writer.proofs.Laws.{written_nil, written_cons, written_append, decimal_small, decimal_more}
+use Rattle.writer.proofs.Writer.+number.Goals.{then-n-ge10, else-n-ge10}
 use Rattle.writer.proofs.Writer.+number.Goals as goal
 
-pub returns-then-n-lt10 : goal.returns-then-n-lt10
-returns-then-n-lt10 t c = rw (decimal_small _ c.if-n-lt10.true, written_cons, written_nil, ← c.digit-d.ensures, ← c.put.ensures)
-
 pub returns : goal.returns
-returns t c = rw (decimal_more _ c.if-n-lt10.false, written_append, written_cons, written_nil, ← c.number-writer.ensures) (rw (← c.digit-d.ensures, ← c.put-2.ensures))
+returns t c = elim c.if-n-ge10.branch [
+  | then-n-ge10 w ↦ rw (c.put.ensures, c.digit.ensures, w.self-is, w.number.ensures, decimal_more c.args.n w.if-n-ge10.true, written_append, written_cons, written_nil)
+  | else-n-ge10 w ↦ rw (c.put.ensures, c.digit.ensures, w.self-is, decimal_small c.args.n w.if-n-ge10.false, written_cons, written_nil)
+]

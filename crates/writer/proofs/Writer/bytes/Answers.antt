@@ -1,14 +1,10 @@
--- Each turn puts the byte at k, and after the last one nothing is left.
-use Rattle.std.proofs.Common.{length, sym, ◌∙◌, arith}
-use Rattle.writer.specs.Window.{output}
-use Rattle.writer.proofs.Laws.{written_end, written_byte, written_bytes}
+-- Each turn puts the byte at the index, and after the last one nothing is left.
+use Rattle.std.proofs.Common.{sym, ◌∙◌}
+use Rattle.writer.proofs.Laws.{written_next, written_past}
 use Rattle.writer.proofs.Writer.bytes.Goals as goal
 
-pub loop-k-preserved : goal.loop-k-preserved
-loop-k-preserved c =
-    let l = c.loop-k in
-    let s = c.args.s.now in
-    (omega arith, written_byte s l.k (length s) _ (output l.writer l.buf) c.loop-k-test.true c.put-writer.ensures ∙ l.invariant.1)
+pub loop-b-preserved : goal.loop-b-preserved
+loop-b-preserved c = rw c.put.ensures (written_next c.args.s.now c.loop-b.b-index c.loop-b.self c.loop-b-test.true) ∙ c.loop-b.invariant
 
 pub returns : goal.returns
-returns c = sym (written_end _ _ _ _ c.loop-k-test.false) ∙ c.loop-k.invariant.1 ∙ written_bytes _ _
+returns c = sym (written_past c.args.s.now c.loop-b.b-index c.loop-b.self c.loop-b-test.false) ∙ c.loop-b.invariant
