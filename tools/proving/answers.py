@@ -37,7 +37,7 @@ EQUATIONS = {'==': ('eq-eqb', 'ne_eqb'), '!=': ('ne_eqb', 'eq-eqb'), '<': ('lt-l
              '>=': ('le-ltb', 'lt-ltb'), '>': ('lt-leb', 'le-leb')}
 
 # The number that a function's `match` is on, where it isn't KIND.
-NUMBER = {'compound': 'args.cell.kind', 'line': 'read.result.kind', 'build': 'parts-shape.result'}
+NUMBER = {'compound': 'args.cell.kind', 'line': 'read.result.kind', 'build': 'parts.result'}
 KIND = 'read-cell.result.kind'
 
 # Laws to rewrite by before a call, by its name or that of its step.

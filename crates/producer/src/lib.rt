@@ -32,6 +32,7 @@ pub struct State {
 }
 
 // The lent slices: the rows, and the cells.
+#[derive(Drop)]
 pub struct Tables<'a> {
     pub rows: &'a mut [u32],
     pub cells: &'a mut [u32],

@@ -4,96 +4,90 @@ use borrow.Author.Tests.{ne_eqb}
 use Rattle.run.specs.Build.{built_body, built_one, built_three, built_two}
 use Rattle.run.proofs.At as law
 use Rattle.run.proofs.Steps.{steps}
-use Rattle.ast.proofs.Laws.{up_is}
 use Rattle.run.proofs.build.+build.Goals as goal
 
 pub build-returns-then-left-eq0 : goal.build-returns-then-left-eq0
 unfolding built_body steps
-build-returns-then-left-eq0 t c = rw (law.built_none _ _ _ _ c.if-left-eq0.true)
+build-returns-then-left-eq0 t c = rw (law.built_none _ _ _ _ c.if-left-eq0.true, c.refused.ensures)
 
-pub build-returns-in-Is : goal.build-returns-in-Is
+pub build-returns-in_err-s-in-1 : goal.build-returns-in_err-s-in-1
 unfolding built_body steps
-build-returns-in-Is t c = rw (law.built_in _ _ _ _ c.if-left-eq0.false, ← c.byte-kind.ensures, up_is _, ← c.parts-shape.ensures, c.in-1.is, ← c.intern.ensures)
-    (rw (c.in-Is.is))
+build-returns-in_err-s-in-1 t c = rw (law.built_in _ _ _ _ c.if-left-eq0.false, ← c.byte-kind.ensures, ← c.parts.ensures, c.in-1.is, law.residual _ _ c.from_residual.ensures.1, ← c.in_err-s-in-1.ensures)
 
-pub build-returns-in-Refused : goal.build-returns-in-Refused
+pub build-returns-in_err-s-in-2 : goal.build-returns-in_err-s-in-2
 unfolding built_body steps
-build-returns-in-Refused t c = rw (law.built_in _ _ _ _ c.if-left-eq0.false, ← c.byte-kind.ensures, up_is _, ← c.parts-shape.ensures, c.in-1.is, ← c.intern.ensures)
-    (rw (c.in-Refused.is))
+build-returns-in_err-s-in-2 t c = rw (law.built_in _ _ _ _ c.if-left-eq0.false, ← c.byte-kind.ensures, ← c.parts.ensures, c.in-2.is, ← c.byte.ensures, law.residual _ _ c.from_residual-in_err-s-in-2.ensures.1)
+    (rw (← c.in_err-s-in-2.ensures))
 
-pub build-returns-in-Is-intern : goal.build-returns-in-Is-intern
+pub build-returns-in_ok-s-in-1 : goal.build-returns-in_ok-s-in-1
 unfolding built_body steps
-build-returns-in-Is-intern t c = rw (law.built_in _ _ _ _ c.if-left-eq0.false, ← c.byte-kind.ensures, up_is _, ← c.parts-shape.ensures, c.in-2.is, ← c.byte-number.ensures)
-    (rw (up_is _, ← c.intern-in-2.ensures, c.in-Is-intern.is))
+build-returns-in_ok-s-in-1 t c = rw (law.built_in _ _ _ _ c.if-left-eq0.false, ← c.byte-kind.ensures, ← c.parts.ensures, c.in-1.is, ← c.in_ok-s-in-1.ensures)
 
-pub build-returns-in-Refused-intern : goal.build-returns-in-Refused-intern
+pub build-returns-in_ok-s-in-2 : goal.build-returns-in_ok-s-in-2
 unfolding built_body steps
-build-returns-in-Refused-intern t c = rw (law.built_in _ _ _ _ c.if-left-eq0.false, ← c.byte-kind.ensures, up_is _, ← c.parts-shape.ensures, c.in-2.is, ← c.byte-number.ensures)
-    (rw (up_is _, ← c.intern-in-2.ensures, c.in-Refused-intern.is))
+build-returns-in_ok-s-in-2 t c = rw (law.built_in _ _ _ _ c.if-left-eq0.false, ← c.byte-kind.ensures, ← c.parts.ensures, c.in-2.is, ← c.byte.ensures, ← c.in_ok-s-in-2.ensures)
 
 pub build-returns-in-3 : goal.build-returns-in-3
 unfolding built_body steps
-build-returns-in-3 t c = rw (law.built_in _ _ _ _ c.if-left-eq0.false, ← c.byte-kind.ensures, up_is _, ← c.parts-shape.ensures, c.in-3.is, ← c.one.ensures)
+build-returns-in-3 t c = rw (law.built_in _ _ _ _ c.if-left-eq0.false, ← c.byte-kind.ensures, ← c.parts.ensures, c.in-3.is, ← c.one.ensures)
 
 pub build-returns-in-4 : goal.build-returns-in-4
 unfolding built_body steps
-build-returns-in-4 t c = rw (law.built_in _ _ _ _ c.if-left-eq0.false, ← c.byte-kind.ensures, up_is _, ← c.parts-shape.ensures, c.in-4.is, ← c.two.ensures)
+build-returns-in-4 t c = rw (law.built_in _ _ _ _ c.if-left-eq0.false, ← c.byte-kind.ensures, ← c.parts.ensures, c.in-4.is, ← c.two.ensures)
 
 pub build-returns-in-5 : goal.build-returns-in-5
 unfolding built_body steps
-build-returns-in-5 t c = rw (law.built_in _ _ _ _ c.if-left-eq0.false, ← c.byte-kind.ensures, up_is _, ← c.parts-shape.ensures, c.in-5.is, ← c.three.ensures)
+build-returns-in-5 t c = rw (law.built_in _ _ _ _ c.if-left-eq0.false, ← c.byte-kind.ensures, ← c.parts.ensures, c.in-5.is, ← c.three.ensures)
 
-pub build-returns : goal.build-returns
+pub build-returns-in_default : goal.build-returns-in_default
 unfolding built_body steps
-build-returns t c = rw (law.built_in _ _ _ _ c.if-left-eq0.false, ← c.byte-kind.ensures, up_is _, ← c.parts-shape.ensures, ne_eqb _ _ (let n : c.parts-shape.result ≡ 1 → ⊥ = omega arith in n), ne_eqb _ _ (let n : c.parts-shape.result ≡ 2 → ⊥ = omega arith in n))
-    (rw (ne_eqb _ _ (let n : c.parts-shape.result ≡ 3 → ⊥ = omega arith in n), ne_eqb _ _ (let n : c.parts-shape.result ≡ 4 → ⊥ = omega arith in n), ne_eqb _ _ (let n : c.parts-shape.result ≡ 5 → ⊥ = omega arith in n)))
+build-returns-in_default t c = rw (law.built_in _ _ _ _ c.if-left-eq0.false, ← c.byte-kind.ensures, ← c.parts.ensures, ne_eqb _ _ (let n : c.parts.result ≡ 1 → ⊥ = omega arith in n), ne_eqb _ _ (let n : c.parts.result ≡ 2 → ⊥ = omega arith in n), ne_eqb _ _ (let n : c.parts.result ≡ 3 → ⊥ = omega arith in n))
+    (rw (ne_eqb _ _ (let n : c.parts.result ≡ 4 → ⊥ = omega arith in n), ne_eqb _ _ (let n : c.parts.result ≡ 5 → ⊥ = omega arith in n), c.refused-in_default.ensures))
 
-pub one-returns-in_default : goal.one-returns-in_default
+pub one-returns-in_err-s1 : goal.one-returns-in_err-s1
 unfolding built_one steps
-one-returns-in_default t c = rw (← c.build-q1.ensures, c.in_default.is)
+one-returns-in_err-s1 t c = rw (law.residual _ _ c.from_residual.ensures.1, ← c.in_err-s1.ensures)
 
-pub one-returns-in-Is : goal.one-returns-in-Is
+pub one-returns-in_err-s : goal.one-returns-in_err-s
 unfolding built_one steps
-one-returns-in-Is t c = rw (← c.build-q1.ensures, c.in-Pair.is, ← c.intern.ensures, c.in-Is.is)
+one-returns-in_err-s t c = rw (← c.in_ok-s1.ensures, law.residual _ _ c.from_residual-in_err-s.ensures.1, ← c.in_err-s.ensures)
 
-pub one-returns-in-Refused : goal.one-returns-in-Refused
+pub one-returns : goal.one-returns
 unfolding built_one steps
-one-returns-in-Refused t c = rw (← c.build-q1.ensures, c.in-Pair.is, ← c.intern.ensures, c.in-Refused.is)
+one-returns t c = rw (← c.in_ok-s1.ensures, ← c.in_ok-s.ensures)
 
-pub three-returns-in_default : goal.three-returns-in_default
+pub three-returns-in_err-s1 : goal.three-returns-in_err-s1
 unfolding built_three steps
-three-returns-in_default t c = rw (← c.build-q1.ensures, c.in_default.is)
+three-returns-in_err-s1 t c = rw (law.residual _ _ c.from_residual.ensures.1, ← c.in_err-s1.ensures)
 
-pub three-returns-in_default-q2 : goal.three-returns-in_default-q2
+pub three-returns-in_err-s2 : goal.three-returns-in_err-s2
 unfolding built_three steps
-three-returns-in_default-q2 t c = rw (← c.build-q1.ensures, c.in-Pair.is, ← c.build-q2.ensures, c.in_default-q2.is)
+three-returns-in_err-s2 t c = rw (← c.in_ok-s1.ensures, law.residual _ _ c.from_residual-in_err-s2.ensures.1, ← c.in_err-s2.ensures)
 
-pub three-returns-in_default-q3 : goal.three-returns-in_default-q3
+pub three-returns-in_err-s3 : goal.three-returns-in_err-s3
 unfolding built_three steps
-three-returns-in_default-q3 t c = rw (← c.build-q1.ensures, c.in-Pair.is, ← c.build-q2.ensures, c.in-Pair-q2.is, ← c.build-q3.ensures, c.in_default-q3.is)
+three-returns-in_err-s3 t c = rw (← c.in_ok-s1.ensures, ← c.in_ok-s2.ensures, law.residual _ _ c.from_residual-in_err-s3.ensures.1, ← c.in_err-s3.ensures)
 
-pub three-returns-in-Is : goal.three-returns-in-Is
+pub three-returns-in_err-s : goal.three-returns-in_err-s
 unfolding built_three steps
-three-returns-in-Is t c = rw (← c.build-q1.ensures, c.in-Pair.is, ← c.build-q2.ensures, c.in-Pair-q2.is, ← c.build-q3.ensures, c.in-Pair-q3.is)
-    (rw (← c.intern.ensures, c.in-Is.is))
+three-returns-in_err-s t c = rw (← c.in_ok-s1.ensures, ← c.in_ok-s2.ensures, ← c.in_ok-s3.ensures, law.residual _ _ c.from_residual-in_err-s.ensures.1, ← c.in_err-s.ensures)
 
-pub three-returns-in-Refused : goal.three-returns-in-Refused
+pub three-returns : goal.three-returns
 unfolding built_three steps
-three-returns-in-Refused t c = rw (← c.build-q1.ensures, c.in-Pair.is, ← c.build-q2.ensures, c.in-Pair-q2.is, ← c.build-q3.ensures, c.in-Pair-q3.is)
-    (rw (← c.intern.ensures, c.in-Refused.is))
+three-returns t c = rw (← c.in_ok-s1.ensures, ← c.in_ok-s2.ensures, ← c.in_ok-s3.ensures, ← c.in_ok-s.ensures)
 
-pub two-returns-in_default : goal.two-returns-in_default
+pub two-returns-in_err-s1 : goal.two-returns-in_err-s1
 unfolding built_two steps
-two-returns-in_default t c = rw (← c.build-q1.ensures, c.in_default.is)
+two-returns-in_err-s1 t c = rw (law.residual _ _ c.from_residual.ensures.1, ← c.in_err-s1.ensures)
 
-pub two-returns-in_default-q2 : goal.two-returns-in_default-q2
+pub two-returns-in_err-s2 : goal.two-returns-in_err-s2
 unfolding built_two steps
-two-returns-in_default-q2 t c = rw (← c.build-q1.ensures, c.in-Pair.is, ← c.build-q2.ensures, c.in_default-q2.is)
+two-returns-in_err-s2 t c = rw (← c.in_ok-s1.ensures, law.residual _ _ c.from_residual-in_err-s2.ensures.1, ← c.in_err-s2.ensures)
 
-pub two-returns-in-Is : goal.two-returns-in-Is
+pub two-returns-in_err-s : goal.two-returns-in_err-s
 unfolding built_two steps
-two-returns-in-Is t c = rw (← c.build-q1.ensures, c.in-Pair.is, ← c.build-q2.ensures, c.in-Pair-q2.is, ← c.intern.ensures, c.in-Is.is)
+two-returns-in_err-s t c = rw (← c.in_ok-s1.ensures, ← c.in_ok-s2.ensures, law.residual _ _ c.from_residual-in_err-s.ensures.1, ← c.in_err-s.ensures)
 
-pub two-returns-in-Refused : goal.two-returns-in-Refused
+pub two-returns : goal.two-returns
 unfolding built_two steps
-two-returns-in-Refused t c = rw (← c.build-q1.ensures, c.in-Pair.is, ← c.build-q2.ensures, c.in-Pair-q2.is, ← c.intern.ensures, c.in-Refused.is)
+two-returns t c = rw (← c.in_ok-s1.ensures, ← c.in_ok-s2.ensures, ← c.in_ok-s.ensures)

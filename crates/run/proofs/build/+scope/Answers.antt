@@ -8,14 +8,14 @@ pub returns-then-left-eq0 : goal.returns-then-left-eq0
 unfolding scoped_body steps
 returns-then-left-eq0 t c = rw (law.scoped_none _ _ _ _ _ c.if-left-eq0.true)
 
-pub returns-in_default : goal.returns-in_default
+pub returns-in_err-s1 : goal.returns-in_err-s1
 unfolding scoped_body steps
-returns-in_default t c = rw (law.scoped_in _ _ _ _ _ c.if-left-eq0.false, ← c.build-q1.ensures, c.in_default.is)
+returns-in_err-s1 t c = rw (law.scoped_in _ _ _ _ _ c.if-left-eq0.false, law.residual _ _ c.from_residual.ensures.1, ← c.in_err-s1.ensures)
 
-pub returns-in-Is : goal.returns-in-Is
+pub returns-in_err-s2 : goal.returns-in_err-s2
 unfolding scoped_body steps
-returns-in-Is t c = rw (law.scoped_in _ _ _ _ _ c.if-left-eq0.false, ← c.build-q1.ensures, c.in-Pair.is, ← c.intern.ensures, c.in-Is.is, ← c.scope.ensures)
+returns-in_err-s2 t c = rw (law.scoped_in _ _ _ _ _ c.if-left-eq0.false, ← c.in_ok-s1.ensures, law.residual _ _ c.from_residual-in_err-s2.ensures.1, ← c.in_err-s2.ensures)
 
-pub returns-in-Refused : goal.returns-in-Refused
+pub returns : goal.returns
 unfolding scoped_body steps
-returns-in-Refused t c = rw (law.scoped_in _ _ _ _ _ c.if-left-eq0.false, ← c.build-q1.ensures, c.in-Pair.is, ← c.intern.ensures, c.in-Refused.is)
+returns t c = rw (law.scoped_in _ _ _ _ _ c.if-left-eq0.false, ← c.in_ok-s1.ensures, ← c.in_ok-s2.ensures, ← c.scope.ensures)
