@@ -16,6 +16,7 @@ UNFOLD = {
     'path': 'path_ends up',
     'plam': 'plam_ends up',
     'under': 'up',
+    'build': 'up',
     'under_subst': 'up',
     'pair': 'pair_typed',
     'line': 'at_ends as_path',
@@ -41,7 +42,7 @@ NUMBER = {'compound': 'args.cell.kind', 'line': 'read.result.kind', 'build': 'pa
 KIND = 'read-cell.result.kind'
 
 # Laws to rewrite by before a call, by its name or that of its step.
-BEFORE = {'ended': 'law.ended_end _ _', 'max-top': 'law.greater_is _ _', 'max-2': 'law.greater_is _ _'}
+BEFORE = {'ended': 'law.ended_end _ _ _', 'max-top': 'law.greater_is _ _', 'max-2': 'law.greater_is _ _'}
 
 # Calls whose contract says what the result is, where the goal has the result.
 DIRECT = ('refused',)

@@ -68,7 +68,7 @@ class Crate:
         if entered and entered[0] + '_body' in own:
             out[entered[0] + '_body'] = own[entered[0] + '_body']
         out.update({word: OTHERS.get(word) or own[word] for word in UNFOLD.get(name, '').split()})
-        if 'over' in said:
+        if 'machine' in said:
             names, steps = self.steps()
             out = {word: module for word, module in out.items() if word not in steps}
             out.update({name: self.module('proofs/Steps') for name in names})
@@ -93,7 +93,7 @@ def unfoldable(module):
 
 def enters(function):
     "the reference function that a contract says it is, with the number of arguments of its law"
-    m = re.search(r'≡ (?:\(callees left\)\.(\w+)|(\w+) left)(.*?)\(over', function.contract)
+    m = re.search(r'≡ (?:\(callees left\)\.(\w+)|(\w+) left)(.*?)\(machine', function.contract)
     return (m.group(1) or m.group(2), len(m.group(3).split()) + 2) if m else None
 
 

@@ -11,7 +11,6 @@ pub use Rattle.ast.proofs.Laws.{greater_is}
 use Rattle.ast.specs.declared.cells.Shape.{Shape}
 use Rattle.ast.specs.declared.cells.Shape.TheVariants.{Universe, Pi, Lam, Path, Plam, Sigma, Pair, Other}
 use Rattle.std.specs.Prelude.{Result, Ok, Err, IsErrAnd}
-use Rattle.producer.specs.declared.Tables.{Tables}
 use Rattle.producer.specs.declared.intervals.IOp.{IOp}
 use Rattle.producer.specs.declared.transforms.Op.{Op}
 use Rattle.producer.specs.Machine.{Machine, W, next, ◌>>=◌, give, stop, enter, note, ended, on_universe, on_pi, on_lam, on_path, on_plam, on_sigma, on_pair}
@@ -184,10 +183,10 @@ max_in zero m n w h = absurd (h refl)
 max_in (suc k) m n w h = rw sub-one
 
 -- a conversion that has ended
-pub ended_end : {A : Type 0} (q : Answer A) (t : Tables) → ended (end q t) ≡ end (ended_answer q) t
+pub ended_end : {A : Type 0} (q : Answer A) (R C : List ℕ) → ended (end q R C) ≡ end (ended_answer q) R C
 unfolding ended end ended_answer
-ended_end (Ok (s, x)) t = refl
-ended_end (Err e) t = refl
+ended_end (Ok (s, x)) R C = refl
+ended_end (Err e) R C = refl
 
 -- a shape that is not the one taken apart
 

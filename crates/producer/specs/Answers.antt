@@ -1,14 +1,13 @@
 -- The answers of the methods, with the words that they leave, as ends of steps. Assumes nothing.
-use Rattle.std.specs.Prelude.{ℕ, ◌-◌, Result, Ok, Err, Some, None}
+use Rattle.std.specs.Prelude.{ℕ, List, ◌-◌, Result, Ok, Err, Some, None}
 use Rattle.std.specs.Prelude as program
 use Rattle.std.proofs.Math.Option.{Option, none, some}
 use Rattle.producer.specs.declared.State.{State}
-use Rattle.producer.specs.declared.Tables.{Tables}
 use Rattle.producer.specs.declared.answers.Refused.{Refused}
 use Rattle.producer.specs.declared.codes.Rule.{Rule}
 use Rattle.producer.specs.declared.rows.Refs.{Refs}
 use Rattle.producer.specs.Machine as step
-use Rattle.producer.specs.Machine.{Finding, Reduction, over, conversions_of}
+use Rattle.producer.specs.Machine.{Finding, Reduction, machine, conversions_of}
 use Rattle.producer.specs.Judgments.{rule_number}
 
 -- the counts with what was found, or a refusal
@@ -18,28 +17,28 @@ Answer A = Result (State × A) Refused
 unfoldable pub refused_of : State → ℕ → Refused
 refused_of s n = record { state = s; number = n }
 
-unfoldable pub end : {A : Type 0} → Answer A → Tables → step.Result A
-end (Ok (s, x)) t = step.is x (over t s)
-end (Err e) t = step.not e.number (over t e.state)
+unfoldable pub end : {A : Type 0} → Answer A → List ℕ → List ℕ → step.Result A
+end (Ok (s, x)) R C = step.is x (machine R C s)
+end (Err e) R C = step.not e.number (machine R C e.state)
 
 -- an answer of the counts alone
-unfoldable pub end_state : Result State Refused → Tables → step.Result (Unit {0})
-end_state (Ok s) t = step.is tt (over t s)
-end_state (Err e) t = step.not e.number (over t e.state)
+unfoldable pub end_state : Result State Refused → List ℕ → List ℕ → step.Result (Unit {0})
+end_state (Ok s) R C = step.is tt (machine R C s)
+end_state (Err e) R C = step.not e.number (machine R C e.state)
 
-unfoldable pub end_found : Answer (ℕ × Refs × Rule) → Tables → step.Result Finding
-end_found (Ok (s, (ty, refs, rule))) t = step.is (record { type = ty; refs = refs; rule = rule_number rule }) (over t s)
-end_found (Err e) t = step.not e.number (over t e.state)
+unfoldable pub end_found : Answer (ℕ × Refs × Rule) → List ℕ → List ℕ → step.Result Finding
+end_found (Ok (s, (ty, refs, rule))) R C = step.is (record { type = ty; refs = refs; rule = rule_number rule }) (machine R C s)
+end_found (Err e) R C = step.not e.number (machine R C e.state)
 
-unfoldable pub end_step : Answer (program.Option (ℕ × ℕ × ℕ)) → Tables → step.Result (Option Reduction)
-end_step (Ok (s, Some (term, ty, row))) t = step.is (some (record { term = term; type = ty; row = row })) (over t s)
-end_step (Ok (s, None)) t = step.is none (over t s)
-end_step (Err e) t = step.not e.number (over t e.state)
+unfoldable pub end_step : Answer (program.Option (ℕ × ℕ × ℕ)) → List ℕ → List ℕ → step.Result (Option Reduction)
+end_step (Ok (s, Some (term, ty, row))) R C = step.is (some (record { term = term; type = ty; row = row })) (machine R C s)
+end_step (Ok (s, None)) R C = step.is none (machine R C s)
+end_step (Err e) R C = step.not e.number (machine R C e.state)
 
-unfoldable pub end_round : Answer (program.Option (ℕ × ℕ)) → Tables → step.Result (Option (ℕ × ℕ))
-end_round (Ok (s, Some x)) t = step.is (some x) (over t s)
-end_round (Ok (s, None)) t = step.is none (over t s)
-end_round (Err e) t = step.not e.number (over t e.state)
+unfoldable pub end_round : Answer (program.Option (ℕ × ℕ)) → List ℕ → List ℕ → step.Result (Option (ℕ × ℕ))
+end_round (Ok (s, Some x)) R C = step.is (some x) (machine R C s)
+end_round (Ok (s, None)) R C = step.is none (machine R C s)
+end_round (Err e) R C = step.not e.number (machine R C e.state)
 
 -- a conversion has ended
 unfoldable pub ended_answer : {A : Type 0} → Answer A → Answer A

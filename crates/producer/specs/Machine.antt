@@ -13,7 +13,6 @@ use Rattle.ast.specs.declared.cells.Cell.{Cell}
 use Rattle.ast.specs.declared.cells.Shape.{Shape}
 use Rattle.ast.specs.declared.cells.Shape.TheVariants.{Universe, Pi, Lam, Path, Plam, Sigma, Pair, Other}
 use Rattle.producer.specs.declared.State.{State}
-use Rattle.producer.specs.declared.Tables.{Tables}
 use Rattle.producer.specs.declared.rows.Refs.{Refs}
 use Rattle.producer.specs.declared.transforms.Op.{Op}
 
@@ -25,10 +24,6 @@ pub record Machine : Type 0 where
 
 abbrev pub machine : List ℕ → List ℕ → State → Machine
 machine R C s = record { rows = R; cells = C; state = s }
-
--- the lent slices with the counts
-abbrev pub over : Tables → State → Machine
-over t s = machine t.rows.now t.cells.now s
 
 -- no rows, cells or memory, with a nesting limit and room for so many rows and cells
 abbrev pub new_state : (limit rowroom cellroom : ℕ) → State

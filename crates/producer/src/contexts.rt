@@ -2,43 +2,52 @@
 ghost use Rattle.std.specs.Prelude.{◌≡◌};
 ghost use Rattle.producer.specs.Answers.{end};
 ghost use Rattle.producer.specs.Judgments.{rule_number};
-ghost use Rattle.producer.specs.Machine.{over};
+ghost use Rattle.producer.specs.Machine.{machine};
 ghost use Rattle.producer.specs.Calls.{callees};
 
+use crate::State;
 use crate::answers::Answer;
 use crate::codes::{Judgment, Rule};
 use crate::rows::cite;
 use crate::transforms::Op;
-use crate::{State, Tables};
+use ast::cells::{quote, read};
 use ast::{kinds, refusals};
 
 impl State {
     // The context under one more dimension.
-    pub fn dshiftctx(self, left: u32, tables: &mut Tables, g: u32) -> Answer<(u32, u32)>
-        ensures { end result tables.new ≡ (callees left).dshiftctx g (over tables.old self) }
+    pub fn dshiftctx(
+        self,
+        left: u32,
+        rows: &mut [u32],
+        cells: &mut [u32],
+        g: u32,
+    ) -> Answer<(u32, u32)>
+        ensures { end result rows.new cells.new ≡ (callees left).dshiftctx g (machine rows.old cells.old self) }
     {
         if left == 0 {
             return Err(self.refused(refusals::NESTING));
         }
         let down = left - 1;
         let s0 = self.deeper(down);
-        let cell = tables.read(g);
+        let cell = read(cells, g);
         if cell.kind == kinds::NIL {
-            let to = tables.quote(g);
+            let to = quote(cells, g);
             let (s, row) = s0.emit(
-                tables,
+                rows,
+                cells,
                 Rule::DShiftCtxNil,
                 cite([]),
                 Judgment::DShiftCtx(cell.quote, 0, to),
             )?;
             return Ok((s, (g, row)));
         }
-        let (s1, (rest, x)) = s0.dshiftctx(down, tables, cell.b)?;
-        let (s2, (last, y)) = s1.transform(down, tables, cell.a, Op::DShift(0))?;
-        let (s3, out) = s2.intern(tables, kinds::CONS, last, rest, 0)?;
-        let to = tables.quote(out);
+        let (s1, (rest, x)) = s0.dshiftctx(down, rows, cells, cell.b)?;
+        let (s2, (last, y)) = s1.transform(down, rows, cells, cell.a, Op::DShift(0))?;
+        let (s3, out) = s2.intern(rows, cells, kinds::CONS, last, rest, 0)?;
+        let to = quote(cells, out);
         let (s, row) = s3.emit(
-            tables,
+            rows,
+            cells,
             Rule::DShiftCtxCons,
             cite([x, y]),
             Judgment::DShiftCtx(cell.quote, 0, to),
@@ -47,34 +56,43 @@ impl State {
     }
 
     // The type of the variable `n`; refuses (8) past the context's end.
-    pub fn lookup(self, left: u32, tables: &mut Tables, g: u32, n: u32) -> Answer<(u32, u32)>
-        ensures { end result tables.new ≡ (callees left).lookup g n (over tables.old self) }
+    pub fn lookup(
+        self,
+        left: u32,
+        rows: &mut [u32],
+        cells: &mut [u32],
+        g: u32,
+        n: u32,
+    ) -> Answer<(u32, u32)>
+        ensures { end result rows.new cells.new ≡ (callees left).lookup g n (machine rows.old cells.old self) }
     {
         if left == 0 {
             return Err(self.refused(refusals::NESTING));
         }
         let down = left - 1;
         let s0 = self.deeper(down);
-        let cell = tables.read(g);
+        let cell = read(cells, g);
         if cell.kind == kinds::NIL {
             return Err(s0.refused(refusals::UNBOUND));
         }
         if n == 0 {
-            let (s1, (ty, x)) = s0.transform(down, tables, cell.a, Op::Shift(0))?;
-            let to = tables.quote(ty);
+            let (s1, (ty, x)) = s0.transform(down, rows, cells, cell.a, Op::Shift(0))?;
+            let to = quote(cells, ty);
             let (s, row) = s1.emit(
-                tables,
+                rows,
+                cells,
                 Rule::LookupZ,
                 cite([x]),
                 Judgment::Lookup(cell.quote, n, to),
             )?;
             return Ok((s, (ty, row)));
         }
-        let (s2, (outer, x)) = s0.lookup(down, tables, cell.b, n - 1)?;
-        let (s3, (ty, y)) = s2.transform(down, tables, outer, Op::Shift(0))?;
-        let to = tables.quote(ty);
+        let (s2, (outer, x)) = s0.lookup(down, rows, cells, cell.b, n - 1)?;
+        let (s3, (ty, y)) = s2.transform(down, rows, cells, outer, Op::Shift(0))?;
+        let to = quote(cells, ty);
         let (s, row) = s3.emit(
-            tables,
+            rows,
+            cells,
             Rule::LookupS,
             cite([x, y]),
             Judgment::Lookup(cell.quote, n, to),

@@ -1,12 +1,12 @@
 // The counts of `State`, for a run, a call, and each function that is entered.
 // Every method of `State` that may be refused takes both lent slices, so that all contracts speak of one machine.
 ghost use Rattle.std.specs.Prelude.{◌≡◌};
-ghost use Rattle.producer.specs.Machine.{new_state, fresh, deeper_of, conversions_of, over};
+ghost use Rattle.producer.specs.Machine.{new_state, fresh, deeper_of, conversions_of, machine};
 ghost use Rattle.producer.specs.Answers.{end_state};
 ghost use Rattle.producer.specs.Calls.{callees};
 
+use crate::State;
 use crate::answers::Refused;
-use crate::{State, Tables};
 use ast::refusals;
 
 impl State {
@@ -45,8 +45,8 @@ impl State {
 
     // A call is about to be made, and an argument is to be made for it: refuses (19) before that where nothing is left.
     #[tactic(auto, unfolding(crate::proofs::Steps::steps))]
-    pub fn ready(self, left: u32, tables: &mut Tables) -> Result<State, Refused>
-        ensures { end_state result tables.new ≡ (callees left).ready (over tables.old self) }
+    pub fn ready(self, left: u32, rows: &[u32], cells: &[u32]) -> Result<State, Refused>
+        ensures { end_state result rows.now cells.now ≡ (callees left).ready (machine rows.now cells.now self) }
     {
         if left == 0 {
             return Err(self.refused(refusals::NESTING));

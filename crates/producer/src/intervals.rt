@@ -2,15 +2,15 @@
 ghost use Rattle.std.specs.Prelude.{◌≡◌};
 ghost use Rattle.producer.specs.Answers.{end};
 ghost use Rattle.producer.specs.Judgments.{rule_number};
-ghost use Rattle.producer.specs.Machine.{over, intern};
+ghost use Rattle.producer.specs.Machine.{machine, intern};
 ghost use Rattle.producer.specs.Intervals.{interval_parts, by_iop, iemit, ifinished, ifinish, idim_shift, idim_subst, idim, ineg, ipair};
 ghost use Rattle.producer.specs.Calls.{callees};
 
+use crate::State;
 use crate::answers::Answer;
 use crate::codes::{Judgment, Rule};
 use crate::rows::{Refs, cite};
-use crate::{State, Tables};
-use ast::cells::Cell;
+use ast::cells::{Cell, quote, read};
 use ast::{kinds, refusals};
 
 // What is done to an interval's dimensions: shift from k, put r for k.
@@ -34,29 +34,29 @@ pub fn by_iop(op: IOp, a: Rule, b: Rule) -> Rule
 impl State {
     // The row of an interval over `d` dimensions.
     #[cycle(interval)]
-    pub fn interval(self, left: u32, tables: &mut Tables, d: u32, r: u32) -> Answer<u32>
-        ensures { end result tables.new ≡ (callees left).interval d r (over tables.old self) }
+    pub fn interval(self, left: u32, rows: &mut [u32], cells: &[u32], d: u32, r: u32) -> Answer<u32>
+        ensures { end result rows.new cells.now ≡ (callees left).interval d r (machine rows.old cells.now self) }
     {
         if left == 0 {
             return Err(self.refused(refusals::NESTING));
         }
         let down = left - 1;
         let s0 = self.deeper(down);
-        let cell = tables.read(r);
+        let cell = read(cells, r);
         let stated = Judgment::Interval(d, cell.quote);
         match cell.kind {
-            kinds::I0 => s0.emit(tables, Rule::Interval0, cite([]), stated),
-            kinds::I1 => s0.emit(tables, Rule::Interval1, cite([]), stated),
+            kinds::I0 => s0.emit(rows, cells, Rule::Interval0, cite([]), stated),
+            kinds::I1 => s0.emit(rows, cells, Rule::Interval1, cite([]), stated),
             kinds::DIM => {
-                let (s1, x) = s0.comparison(down, tables, cell.a, d, true)?;
-                s1.emit(tables, Rule::IntervalDim, cite([x]), stated)
+                let (s1, x) = s0.comparison(down, rows, cells, cell.a, d, true)?;
+                s1.emit(rows, cells, Rule::IntervalDim, cite([x]), stated)
             }
             kinds::NEG => {
-                let (s1, x) = s0.interval(down, tables, d, cell.a)?;
-                s1.emit(tables, Rule::IntervalNeg, cite([x]), stated)
+                let (s1, x) = s0.interval(down, rows, cells, d, cell.a)?;
+                s1.emit(rows, cells, Rule::IntervalNeg, cite([x]), stated)
             }
-            kinds::MEET => s0.interval_parts(down, tables, d, cell, Rule::IntervalMeet),
-            _ => s0.interval_parts(down, tables, d, cell, Rule::IntervalJoin),
+            kinds::MEET => s0.interval_parts(down, rows, cells, d, cell, Rule::IntervalMeet),
+            _ => s0.interval_parts(down, rows, cells, d, cell, Rule::IntervalJoin),
         }
     }
 
@@ -65,17 +65,19 @@ impl State {
     pub fn interval_parts(
         self,
         left: u32,
-        tables: &mut Tables,
+        rows: &mut [u32],
+        cells: &[u32],
         d: u32,
         cell: Cell,
         rule: Rule,
     ) -> Answer<u32>
-        ensures { end result tables.new ≡ interval_parts (callees left) d cell.quote cell.a cell.b (rule_number rule) (over tables.old self) }
+        ensures { end result rows.new cells.now ≡ interval_parts (callees left) d cell.quote cell.a cell.b (rule_number rule) (machine rows.old cells.now self) }
     {
-        let (s1, x) = self.interval(left, tables, d, cell.a)?;
-        let (s2, y) = s1.interval(left, tables, d, cell.b)?;
+        let (s1, x) = self.interval(left, rows, cells, d, cell.a)?;
+        let (s2, y) = s1.interval(left, rows, cells, d, cell.b)?;
         s2.emit(
-            tables,
+            rows,
+            cells,
             rule,
             cite([x, y]),
             Judgment::Interval(d, cell.quote),
@@ -86,20 +88,21 @@ impl State {
     #[tactic(auto, unfolding(crate::specs::Intervals::iemit, crate::proofs::Steps::steps, crate::proofs::Steps::stated))]
     pub fn iemit(
         self,
-        tables: &mut Tables,
+        rows: &mut [u32],
+        cells: &[u32],
         op: IOp,
         rule: Rule,
         refs: Refs,
         p: u32,
         q: u32,
     ) -> Answer<u32>
-        ensures { end result tables.new ≡ iemit op (rule_number rule) refs p q (over tables.old self) }
+        ensures { end result rows.new cells.now ≡ iemit op (rule_number rule) refs p q (machine rows.old cells.now self) }
     {
         match op {
-            IOp::IShift(k) => self.emit(tables, rule, refs, Judgment::IShift(p, k, q)),
+            IOp::IShift(k) => self.emit(rows, cells, rule, refs, Judgment::IShift(p, k, q)),
             IOp::ISubst(k, r) => {
-                let s = tables.quote(r);
-                self.emit(tables, rule, refs, Judgment::ISubst(p, k, s, q))
+                let s = quote(cells, r);
+                self.emit(rows, cells, rule, refs, Judgment::ISubst(p, k, s, q))
             }
         }
     }
@@ -108,18 +111,19 @@ impl State {
     #[tactic(auto, unfolding(crate::specs::Intervals::ifinished, crate::proofs::Steps::steps))]
     pub fn ifinish(
         self,
-        tables: &mut Tables,
+        rows: &mut [u32],
+        cells: &[u32],
         i: u32,
         op: IOp,
         out: u32,
         rule: Rule,
         refs: Refs,
     ) -> Answer<(u32, u32)>
-        ensures { end result tables.new ≡ ifinished i op out (rule_number rule) refs (over tables.old self) }
+        ensures { end result rows.new cells.now ≡ ifinished i op out (rule_number rule) refs (machine rows.old cells.now self) }
     {
-        let p = tables.quote(i);
-        let q = tables.quote(out);
-        let (s, row) = self.iemit(tables, op, rule, refs, p, q)?;
+        let p = quote(cells, i);
+        let q = quote(cells, out);
+        let (s, row) = self.iemit(rows, cells, op, rule, refs, p, q)?;
         Ok((s, (out, row)))
     }
 
@@ -127,7 +131,8 @@ impl State {
     #[tactic(auto, unfolding(crate::specs::Intervals::ifinish, crate::proofs::Steps::steps))]
     pub fn imake(
         self,
-        tables: &mut Tables,
+        rows: &mut [u32],
+        cells: &mut [u32],
         i: u32,
         op: IOp,
         kind: u32,
@@ -136,10 +141,10 @@ impl State {
         rule: Rule,
         refs: Refs,
     ) -> Answer<(u32, u32)>
-        ensures { end result tables.new ≡ ifinish i op (intern kind a b 0) (rule_number rule) refs (over tables.old self) }
+        ensures { end result rows.new cells.new ≡ ifinish i op (intern kind a b 0) (rule_number rule) refs (machine rows.old cells.old self) }
     {
-        let (s, out) = self.intern(tables, kind, a, b, 0)?;
-        s.ifinish(tables, i, op, out, rule, refs)
+        let (s, out) = self.intern(rows, cells, kind, a, b, 0)?;
+        s.ifinish(rows, cells, i, op, out, rule, refs)
     }
 
     // The dimension `n`, shifted from `k` on.
@@ -147,21 +152,23 @@ impl State {
     pub fn idim_shift(
         self,
         left: u32,
-        tables: &mut Tables,
+        rows: &mut [u32],
+        cells: &mut [u32],
         i: u32,
         n: u32,
         k: u32,
     ) -> Answer<(u32, u32)>
-        ensures { end result tables.new ≡ idim_shift (callees left) i n k (over tables.old self) }
+        ensures { end result rows.new cells.new ≡ idim_shift (callees left) i n k (machine rows.old cells.old self) }
     {
         let op = IOp::IShift(k);
         if n < k {
-            let (s, x) = self.comparison(left, tables, n, k, true)?;
-            return s.ifinish(tables, i, op, i, Rule::IShiftDimLt, cite([x]));
+            let (s, x) = self.comparison(left, rows, cells, n, k, true)?;
+            return s.ifinish(rows, cells, i, op, i, Rule::IShiftDimLt, cite([x]));
         }
-        let (s, x) = self.comparison(left, tables, k, n, false)?;
+        let (s, x) = self.comparison(left, rows, cells, k, n, false)?;
         s.imake(
-            tables,
+            rows,
+            cells,
             i,
             op,
             kinds::DIM,
@@ -177,25 +184,27 @@ impl State {
     pub fn idim_subst(
         self,
         left: u32,
-        tables: &mut Tables,
+        rows: &mut [u32],
+        cells: &mut [u32],
         i: u32,
         n: u32,
         k: u32,
         r: u32,
     ) -> Answer<(u32, u32)>
-        ensures { end result tables.new ≡ idim_subst (callees left) i n k r (over tables.old self) }
+        ensures { end result rows.new cells.new ≡ idim_subst (callees left) i n k r (machine rows.old cells.old self) }
     {
         let op = IOp::ISubst(k, r);
         if n == k {
-            return self.ifinish(tables, i, op, r, Rule::ISubstDimHit, cite([]));
+            return self.ifinish(rows, cells, i, op, r, Rule::ISubstDimHit, cite([]));
         }
         if n < k {
-            let (s, x) = self.comparison(left, tables, n, k, true)?;
-            return s.ifinish(tables, i, op, i, Rule::ISubstDimLt, cite([x]));
+            let (s, x) = self.comparison(left, rows, cells, n, k, true)?;
+            return s.ifinish(rows, cells, i, op, i, Rule::ISubstDimLt, cite([x]));
         }
-        let (s, x) = self.comparison(left, tables, k, n, true)?;
+        let (s, x) = self.comparison(left, rows, cells, k, n, true)?;
         s.imake(
-            tables,
+            rows,
+            cells,
             i,
             op,
             kinds::DIM,
@@ -208,56 +217,79 @@ impl State {
 
     // The dimension `n`.
     #[tactic(auto, unfolding(crate::specs::Intervals::idim, crate::proofs::Steps::steps))]
-    pub fn idim(self, left: u32, tables: &mut Tables, i: u32, n: u32, op: IOp) -> Answer<(u32, u32)>
-        ensures { end result tables.new ≡ idim (callees left) i n op (over tables.old self) }
+    pub fn idim(
+        self,
+        left: u32,
+        rows: &mut [u32],
+        cells: &mut [u32],
+        i: u32,
+        n: u32,
+        op: IOp,
+    ) -> Answer<(u32, u32)>
+        ensures { end result rows.new cells.new ≡ idim (callees left) i n op (machine rows.old cells.old self) }
     {
         match op {
-            IOp::IShift(k) => self.idim_shift(left, tables, i, n, k),
-            IOp::ISubst(k, r) => self.idim_subst(left, tables, i, n, k, r),
+            IOp::IShift(k) => self.idim_shift(left, rows, cells, i, n, k),
+            IOp::ISubst(k, r) => self.idim_subst(left, rows, cells, i, n, k, r),
         }
     }
 
     // The interval with its dimensions shifted or substituted: the result, and the row.
     #[cycle(itransform)]
-    pub fn itransform(self, left: u32, tables: &mut Tables, i: u32, op: IOp) -> Answer<(u32, u32)>
-        ensures { end result tables.new ≡ (callees left).itransform i op (over tables.old self) }
+    pub fn itransform(
+        self,
+        left: u32,
+        rows: &mut [u32],
+        cells: &mut [u32],
+        i: u32,
+        op: IOp,
+    ) -> Answer<(u32, u32)>
+        ensures { end result rows.new cells.new ≡ (callees left).itransform i op (machine rows.old cells.old self) }
     {
         if left == 0 {
             return Err(self.refused(refusals::NESTING));
         }
         let down = left - 1;
         let s0 = self.deeper(down);
-        let cell = tables.read(i);
+        let cell = read(cells, i);
         match cell.kind {
             kinds::I0 => {
                 let rule = by_iop(op, Rule::IShift0, Rule::ISubst0);
-                s0.ifinish(tables, i, op, i, rule, cite([]))
+                s0.ifinish(rows, cells, i, op, i, rule, cite([]))
             }
             kinds::I1 => {
                 let rule = by_iop(op, Rule::IShift1, Rule::ISubst1);
-                s0.ifinish(tables, i, op, i, rule, cite([]))
+                s0.ifinish(rows, cells, i, op, i, rule, cite([]))
             }
-            kinds::DIM => s0.idim(down, tables, i, cell.a, op),
-            kinds::NEG => s0.ineg(down, tables, i, op, cell.a),
+            kinds::DIM => s0.idim(down, rows, cells, i, cell.a, op),
+            kinds::NEG => s0.ineg(down, rows, cells, i, op, cell.a),
             kinds::MEET => {
                 let rule = by_iop(op, Rule::IShiftMeet, Rule::ISubstMeet);
-                s0.ipair(down, tables, i, op, kinds::MEET, cell.a, cell.b, rule)
+                s0.ipair(down, rows, cells, i, op, kinds::MEET, cell.a, cell.b, rule)
             }
             _ => {
                 let rule = by_iop(op, Rule::IShiftJoin, Rule::ISubstJoin);
-                s0.ipair(down, tables, i, op, kinds::JOIN, cell.a, cell.b, rule)
+                s0.ipair(down, rows, cells, i, op, kinds::JOIN, cell.a, cell.b, rule)
             }
         }
     }
 
     // A negation.
     #[cycle(itransform)]
-    pub fn ineg(self, left: u32, tables: &mut Tables, i: u32, op: IOp, a: u32) -> Answer<(u32, u32)>
-        ensures { end result tables.new ≡ ineg (callees left) i op a (over tables.old self) }
+    pub fn ineg(
+        self,
+        left: u32,
+        rows: &mut [u32],
+        cells: &mut [u32],
+        i: u32,
+        op: IOp,
+        a: u32,
+    ) -> Answer<(u32, u32)>
+        ensures { end result rows.new cells.new ≡ ineg (callees left) i op a (machine rows.old cells.old self) }
     {
-        let (s1, (a1, x)) = self.itransform(left, tables, a, op)?;
+        let (s1, (a1, x)) = self.itransform(left, rows, cells, a, op)?;
         let rule = by_iop(op, Rule::IShiftNeg, Rule::ISubstNeg);
-        s1.imake(tables, i, op, kinds::NEG, a1, 0, rule, cite([x]))
+        s1.imake(rows, cells, i, op, kinds::NEG, a1, 0, rule, cite([x]))
     }
 
     // A meet or a join.
@@ -265,7 +297,8 @@ impl State {
     pub fn ipair(
         self,
         left: u32,
-        tables: &mut Tables,
+        rows: &mut [u32],
+        cells: &mut [u32],
         i: u32,
         op: IOp,
         kind: u32,
@@ -273,10 +306,10 @@ impl State {
         b: u32,
         rule: Rule,
     ) -> Answer<(u32, u32)>
-        ensures { end result tables.new ≡ ipair (callees left) i op kind a b (rule_number rule) (over tables.old self) }
+        ensures { end result rows.new cells.new ≡ ipair (callees left) i op kind a b (rule_number rule) (machine rows.old cells.old self) }
     {
-        let (s1, (a1, x)) = self.itransform(left, tables, a, op)?;
-        let (s2, (b1, y)) = s1.itransform(left, tables, b, op)?;
-        s2.imake(tables, i, op, kind, a1, b1, rule, cite([x, y]))
+        let (s1, (a1, x)) = self.itransform(left, rows, cells, a, op)?;
+        let (s2, (b1, y)) = s1.itransform(left, rows, cells, b, op)?;
+        s2.imake(rows, cells, i, op, kind, a1, b1, rule, cite([x, y]))
     }
 }

@@ -4,7 +4,6 @@
 pub mod codes; // the judgments and the rules, and their numbers
 pub mod answers; // what the functions answer, and refusals
 pub mod counts; // the counts, for a run, a call, a function that is entered
-pub mod lent; // the lent slices, as methods read them
 pub mod rows; // rows, citations, the search for a known judgment
 pub mod store; // cells that are made, and what is remembered
 pub mod numbers; // comparison, max
@@ -29,11 +28,4 @@ pub struct State {
     // The rows and the cells that there is room for.
     pub rowroom: u32,
     pub cellroom: u32,
-}
-
-// The lent slices: the rows, and the cells.
-#[derive(Drop)]
-pub struct Tables<'a> {
-    pub rows: &'a mut [u32],
-    pub cells: &'a mut [u32],
 }

@@ -2,13 +2,13 @@
 ghost use Rattle.std.specs.Prelude.{◌≡◌};
 ghost use Rattle.producer.specs.Answers.{end};
 ghost use Rattle.producer.specs.Judgments.{rule_number};
-ghost use Rattle.producer.specs.Machine.{over};
+ghost use Rattle.producer.specs.Machine.{machine};
 ghost use Rattle.producer.specs.Calls.{callees};
 
+use crate::State;
 use crate::answers::Answer;
 use crate::codes::{Judgment, Rule};
 use crate::rows::cite;
-use crate::{State, Tables};
 use ast::refusals;
 
 impl State {
@@ -16,12 +16,13 @@ impl State {
     pub fn comparison(
         self,
         left: u32,
-        tables: &mut Tables,
+        rows: &mut [u32],
+        cells: &[u32],
         m: u32,
         n: u32,
         strict: bool,
     ) -> Answer<u32>
-        ensures { end result tables.new ≡ (callees left).comparison m n strict (over tables.old self) }
+        ensures { end result rows.new cells.now ≡ (callees left).comparison m n strict (machine rows.old cells.now self) }
     {
         if left == 0 {
             return Err(self.refused(refusals::NESTING));
@@ -33,24 +34,24 @@ impl State {
                 return Err(s0.refused(refusals::DIMENSION));
             }
             if m == 0 {
-                return s0.emit(tables, Rule::LtZ, cite([]), Judgment::Lt(m, n));
+                return s0.emit(rows, cells, Rule::LtZ, cite([]), Judgment::Lt(m, n));
             }
-            let (s1, x) = s0.comparison(down, tables, m - 1, n - 1, true)?;
-            return s1.emit(tables, Rule::LtS, cite([x]), Judgment::Lt(m, n));
+            let (s1, x) = s0.comparison(down, rows, cells, m - 1, n - 1, true)?;
+            return s1.emit(rows, cells, Rule::LtS, cite([x]), Judgment::Lt(m, n));
         }
         if n < m {
             return Err(s0.refused(refusals::DIMENSION));
         }
         if m == 0 {
-            return s0.emit(tables, Rule::LeZ, cite([]), Judgment::Le(m, n));
+            return s0.emit(rows, cells, Rule::LeZ, cite([]), Judgment::Le(m, n));
         }
-        let (s1, x) = s0.comparison(down, tables, m - 1, n - 1, false)?;
-        s1.emit(tables, Rule::LeS, cite([x]), Judgment::Le(m, n))
+        let (s1, x) = s0.comparison(down, rows, cells, m - 1, n - 1, false)?;
+        s1.emit(rows, cells, Rule::LeS, cite([x]), Judgment::Le(m, n))
     }
 
     // The row of the greater of two levels.
-    pub fn max(self, left: u32, tables: &mut Tables, m: u32, n: u32) -> Answer<u32>
-        ensures { end result tables.new ≡ (callees left).max m n (over tables.old self) }
+    pub fn max(self, left: u32, rows: &mut [u32], cells: &[u32], m: u32, n: u32) -> Answer<u32>
+        ensures { end result rows.new cells.now ≡ (callees left).max m n (machine rows.old cells.now self) }
     {
         if left == 0 {
             return Err(self.refused(refusals::NESTING));
@@ -58,14 +59,15 @@ impl State {
         let down = left - 1;
         let s0 = self.deeper(down);
         if m == 0 {
-            return s0.emit(tables, Rule::MaxZ, cite([]), Judgment::Max(m, n, n));
+            return s0.emit(rows, cells, Rule::MaxZ, cite([]), Judgment::Max(m, n, n));
         }
         if n == 0 {
-            return s0.emit(tables, Rule::MaxSz, cite([]), Judgment::Max(m, n, m));
+            return s0.emit(rows, cells, Rule::MaxSz, cite([]), Judgment::Max(m, n, m));
         }
-        let (s1, x) = s0.max(down, tables, m - 1, n - 1)?;
+        let (s1, x) = s0.max(down, rows, cells, m - 1, n - 1)?;
         s1.emit(
-            tables,
+            rows,
+            cells,
             Rule::MaxSs,
             cite([x]),
             Judgment::Max(m, n, m.max(n)),

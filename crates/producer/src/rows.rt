@@ -4,11 +4,12 @@ ghost use Rattle.std.specs.Prelude.{◌≡◌, ◌*◌};
 ghost use Rattle.std.proofs.lemmas.List.Edits.{sets};
 ghost use Rattle.producer.specs.Answers.{end};
 ghost use Rattle.producer.specs.Judgments.{emit_as, rule_number};
-ghost use Rattle.producer.specs.Machine.{over, row_slot, quarter, row_hash, find_row, link_row, cons_refs, join_refs, refs_of, row_block, same_row, emit_has, emit_eq};
+ghost use Rattle.producer.specs.Machine.{machine, row_slot, quarter, row_hash, find_row, link_row, cons_refs, join_refs, refs_of, row_block, same_row, emit_has, emit_eq};
 
+use crate::State;
 use crate::answers::Answer;
 use crate::codes::{Judgment, Rule, Words};
-use crate::{State, Tables};
+use ast::cells::quote;
 use ast::index::{Indexed, hash, last, link, mix};
 use ast::refusals;
 use ast::words::{put_all, word};
@@ -190,12 +191,13 @@ impl State {
     #[tactic(auto, unfolding(crate::specs::Machine::emit, crate::specs::Machine::known_row, crate::specs::Machine::known_or, crate::specs::Machine::new_row, crate::specs::Machine::add_row, crate::specs::Judgments::emit_as, crate::proofs::Steps::steps, crate::proofs::Steps::stated))]
     pub fn emit(
         mut self,
-        tables: &mut Tables,
+        rows: &mut [u32],
+        cells: &[u32],
         rule: Rule,
         refs: Refs,
         judgment: Judgment,
     ) -> Answer<u32>
-        ensures { end result tables.new ≡ emit_as (rule_number rule) refs judgment (over tables.old self) }
+        ensures { end result rows.new cells.now ≡ emit_as (rule_number rule) refs judgment (machine rows.old cells.now self) }
     {
         let n = self.rows;
         let Words {
@@ -207,24 +209,12 @@ impl State {
             d,
             e,
         } = judgment.words();
-        match tables.find_row(n, kind, a, b, c, d, e) {
+        match find_row(rows, n, kind, a, b, c, d, e) {
             Some(i) => Ok((self, i)),
             None => {
                 if n < self.rowroom {
-                    link_row(tables.rows, n, kind, a, b, c, d, e);
-                    put_row(
-                        tables.rows,
-                        n,
-                        rule.number(),
-                        refs,
-                        kind,
-                        count,
-                        a,
-                        b,
-                        c,
-                        d,
-                        e,
-                    );
+                    link_row(rows, n, kind, a, b, c, d, e);
+                    put_row(rows, n, rule.number(), refs, kind, count, a, b, c, d, e);
                     self.rows = n + 1;
                     return Ok((self, n));
                 }
@@ -237,7 +227,8 @@ impl State {
     #[tactic(auto, unfolding(crate::specs::Machine::emit_has, crate::proofs::Steps::steps, crate::proofs::Steps::stated))]
     pub fn emit_has(
         self,
-        tables: &mut Tables,
+        rows: &mut [u32],
+        cells: &[u32],
         rule: Rule,
         refs: Refs,
         d: u32,
@@ -245,19 +236,26 @@ impl State {
         t: u32,
         ty: u32,
     ) -> Answer<u32>
-        ensures { end result tables.new ≡ emit_has (rule_number rule) refs d g t ty (over tables.old self) }
+        ensures { end result rows.new cells.now ≡ emit_has (rule_number rule) refs d g t ty (machine rows.old cells.now self) }
     {
-        let context = tables.quote(g);
-        let term = tables.quote(t);
-        let kind = tables.quote(ty);
-        self.emit(tables, rule, refs, Judgment::Has(d, context, term, kind))
+        let context = quote(cells, g);
+        let term = quote(cells, t);
+        let kind = quote(cells, ty);
+        self.emit(
+            rows,
+            cells,
+            rule,
+            refs,
+            Judgment::Has(d, context, term, kind),
+        )
     }
 
     // The row of an equation: by quotes.
     #[tactic(auto, unfolding(crate::specs::Machine::emit_eq, crate::proofs::Steps::steps, crate::proofs::Steps::stated))]
     pub fn emit_eq(
         self,
-        tables: &mut Tables,
+        rows: &mut [u32],
+        cells: &[u32],
         rule: Rule,
         refs: Refs,
         d: u32,
@@ -266,14 +264,15 @@ impl State {
         b: u32,
         ty: u32,
     ) -> Answer<u32>
-        ensures { end result tables.new ≡ emit_eq (rule_number rule) refs d g a b ty (over tables.old self) }
+        ensures { end result rows.new cells.now ≡ emit_eq (rule_number rule) refs d g a b ty (machine rows.old cells.now self) }
     {
-        let context = tables.quote(g);
-        let left = tables.quote(a);
-        let right = tables.quote(b);
-        let kind = tables.quote(ty);
+        let context = quote(cells, g);
+        let left = quote(cells, a);
+        let right = quote(cells, b);
+        let kind = quote(cells, ty);
         self.emit(
-            tables,
+            rows,
+            cells,
             rule,
             refs,
             Judgment::Eq(d, context, left, right, kind),

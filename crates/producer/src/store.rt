@@ -1,30 +1,38 @@
 // Cells that are made, and inferences that are remembered.
 ghost use Rattle.std.specs.Prelude.{◌≡◌};
-ghost use Rattle.producer.specs.Machine.{over, intern, remember};
+ghost use Rattle.producer.specs.Machine.{machine, intern, remember};
 ghost use Rattle.producer.specs.Answers.{end, end_state};
 ghost use Rattle.producer.specs.Callees.{prepared};
 ghost use Rattle.producer.specs.Calls.{callees};
 
+use crate::State;
 use crate::answers::{Answer, Refused};
-use crate::{State, Tables};
-use ast::cells::{Node, inference, link_cell, put_again, put_cell};
+use ast::cells::{Node, find_node, inference, link_cell, lowest, put_again, put_cell};
 use ast::refusals;
 
 impl State {
     // The cell with the kind and the parts: the one that has them, or a new one; refuses (20) where none is left.
     #[tactic(auto, unfolding(crate::specs::Machine::intern, crate::specs::Machine::known_or, crate::specs::Machine::new_cell, crate::specs::Machine::add_cell, crate::proofs::Steps::steps))]
-    pub fn intern(mut self, tables: &mut Tables, kind: u32, a: u32, b: u32, c: u32) -> Answer<u32>
-        ensures { end result tables.new ≡ intern kind a b c (over tables.old self) }
+    pub fn intern(
+        mut self,
+        rows: &[u32],
+        cells: &mut [u32],
+        kind: u32,
+        a: u32,
+        b: u32,
+        c: u32,
+    ) -> Answer<u32>
+        ensures { end result rows.now cells.new ≡ intern kind a b c (machine rows.now cells.old self) }
     {
         let n = self.cells;
         let node = Node { kind, a, b, c };
-        match tables.find_node(n, node) {
+        match find_node(cells, n, node) {
             Some(i) => Ok((self, i)),
             None => {
                 if n < self.cellroom {
-                    let quote = tables.lowest(n, node);
-                    link_cell(tables.cells, n, node);
-                    put_cell(tables.cells, n, node, quote, 0, 0, 0);
+                    let quote = lowest(cells, n, node);
+                    link_cell(cells, n, node);
+                    put_cell(cells, n, node, quote, 0, 0, 0);
                     self.cells = n + 1;
                     return Ok((self, n));
                 }
@@ -37,26 +45,27 @@ impl State {
     #[tactic(auto, unfolding(crate::specs::Machine::remember, crate::specs::Machine::remembered_or, crate::specs::Machine::new_memory, crate::specs::Machine::add_cell, crate::specs::Machine::replace, crate::proofs::Steps::steps))]
     pub fn remember(
         mut self,
-        tables: &mut Tables,
+        rows: &[u32],
+        cells: &mut [u32],
         d: u32,
         g: u32,
         t: u32,
         ty: u32,
         row: u32,
     ) -> Result<State, Refused>
-        ensures { end_state result tables.new ≡ remember d g t ty row (over tables.old self) }
+        ensures { end_state result rows.now cells.new ≡ remember d g t ty row (machine rows.now cells.old self) }
     {
         let n = self.cells;
         let key = inference(d, g, t);
-        match tables.find_node(n, key) {
+        match find_node(cells, n, key) {
             Some(i) => {
-                put_again(tables.cells, i, ty, row);
+                put_again(cells, i, ty, row);
                 Ok(self)
             }
             None => {
                 if n < self.cellroom {
-                    link_cell(tables.cells, n, key);
-                    put_cell(tables.cells, n, key, ty, row, 0, 0);
+                    link_cell(cells, n, key);
+                    put_cell(cells, n, key, ty, row, 0, 0);
                     self.cells = n + 1;
                     return Ok(self);
                 }
@@ -67,10 +76,18 @@ impl State {
 
     // A cell that is an argument of a call about to be made: 19 precedes 20.
     #[tactic(auto, unfolding(crate::specs::Callees::prepared, crate::proofs::Steps::steps))]
-    pub fn prepare(self, left: u32, tables: &mut Tables, kind: u32, a: u32, b: u32) -> Answer<u32>
-        ensures { end result tables.new ≡ prepared (callees left) (intern kind a b 0) (over tables.old self) }
+    pub fn prepare(
+        self,
+        left: u32,
+        rows: &[u32],
+        cells: &mut [u32],
+        kind: u32,
+        a: u32,
+        b: u32,
+    ) -> Answer<u32>
+        ensures { end result rows.now cells.new ≡ prepared (callees left) (intern kind a b 0) (machine rows.now cells.old self) }
     {
-        let s = self.ready(left, tables)?;
-        s.intern(tables, kind, a, b, 0)
+        let s = self.ready(left, rows, cells)?;
+        s.intern(rows, cells, kind, a, b, 0)
     }
 }

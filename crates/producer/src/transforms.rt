@@ -2,16 +2,16 @@
 ghost use Rattle.std.specs.Prelude.{◌≡◌};
 ghost use Rattle.producer.specs.Answers.{end};
 ghost use Rattle.producer.specs.Judgments.{rule_number};
-ghost use Rattle.producer.specs.Machine.{over, intern, make_var};
+ghost use Rattle.producer.specs.Machine.{machine, intern, make_var};
 ghost use Rattle.producer.specs.Transforms.{by_op, rule_of, temit, finished, finish, tvar_shift, tvar_subst, tvar, tinterval, transform_binder, transform_lam, transform_app, transform_path, transform_plam, transform_papp, transform_pair, transform_projection, compound, under_subst};
 ghost use Rattle.producer.specs.Calls.{callees};
 
+use crate::State;
 use crate::answers::Answer;
 use crate::codes::{Judgment, Rule};
 use crate::intervals::IOp;
 use crate::rows::{Refs, cite, cite_before, cite_first};
-use crate::{State, Tables};
-use ast::cells::Cell;
+use ast::cells::{Cell, quote, read};
 use ast::{kinds, refusals};
 
 // What is done to a term: shift from k, put r for k; of variables, or of dimensions.
@@ -139,25 +139,26 @@ impl State {
     #[tactic(auto, unfolding(crate::specs::Transforms::temit, crate::proofs::Steps::steps, crate::proofs::Steps::stated))]
     pub fn temit(
         self,
-        tables: &mut Tables,
+        rows: &mut [u32],
+        cells: &[u32],
         op: Op,
         rule: Rule,
         refs: Refs,
         p: u32,
         q: u32,
     ) -> Answer<u32>
-        ensures { end result tables.new ≡ temit op (rule_number rule) refs p q (over tables.old self) }
+        ensures { end result rows.new cells.now ≡ temit op (rule_number rule) refs p q (machine rows.old cells.now self) }
     {
         match op {
-            Op::Shift(k) => self.emit(tables, rule, refs, Judgment::Shift(p, k, q)),
+            Op::Shift(k) => self.emit(rows, cells, rule, refs, Judgment::Shift(p, k, q)),
             Op::Subst(k, r) => {
-                let s = tables.quote(r);
-                self.emit(tables, rule, refs, Judgment::Subst(p, k, s, q))
+                let s = quote(cells, r);
+                self.emit(rows, cells, rule, refs, Judgment::Subst(p, k, s, q))
             }
-            Op::DShift(k) => self.emit(tables, rule, refs, Judgment::DShift(p, k, q)),
+            Op::DShift(k) => self.emit(rows, cells, rule, refs, Judgment::DShift(p, k, q)),
             Op::DSubst(k, r) => {
-                let s = tables.quote(r);
-                self.emit(tables, rule, refs, Judgment::DSubst(p, k, s, q))
+                let s = quote(cells, r);
+                self.emit(rows, cells, rule, refs, Judgment::DSubst(p, k, s, q))
             }
         }
     }
@@ -166,18 +167,19 @@ impl State {
     #[tactic(auto, unfolding(crate::specs::Transforms::finished, crate::proofs::Steps::steps))]
     pub fn finish(
         self,
-        tables: &mut Tables,
+        rows: &mut [u32],
+        cells: &[u32],
         i: u32,
         op: Op,
         out: u32,
         rule: Rule,
         refs: Refs,
     ) -> Answer<(u32, u32)>
-        ensures { end result tables.new ≡ finished i op out (rule_number rule) refs (over tables.old self) }
+        ensures { end result rows.new cells.now ≡ finished i op out (rule_number rule) refs (machine rows.old cells.now self) }
     {
-        let p = tables.quote(i);
-        let q = tables.quote(out);
-        let (s, row) = self.temit(tables, op, rule, refs, p, q)?;
+        let p = quote(cells, i);
+        let q = quote(cells, out);
+        let (s, row) = self.temit(rows, cells, op, rule, refs, p, q)?;
         Ok((s, (out, row)))
     }
 
@@ -185,7 +187,8 @@ impl State {
     #[tactic(auto, unfolding(crate::specs::Transforms::finish, crate::specs::Transforms::rule_of, crate::proofs::Steps::steps))]
     pub fn tmake(
         self,
-        tables: &mut Tables,
+        rows: &mut [u32],
+        cells: &mut [u32],
         i: u32,
         op: Op,
         kind: u32,
@@ -194,28 +197,29 @@ impl State {
         c: u32,
         refs: Refs,
     ) -> Answer<(u32, u32)>
-        ensures { end result tables.new ≡ finish i op (intern kind a b c) (rule_of op kind) refs (over tables.old self) }
+        ensures { end result rows.new cells.new ≡ finish i op (intern kind a b c) (rule_of op kind) refs (machine rows.old cells.old self) }
     {
-        let (s, out) = self.intern(tables, kind, a, b, c)?;
+        let (s, out) = self.intern(rows, cells, kind, a, b, c)?;
         let rule = rule_of(op, kind);
-        s.finish(tables, i, op, out, rule, refs)
+        s.finish(rows, cells, i, op, out, rule, refs)
     }
 
     // The same of a variable, which has a rule for each way that it compares.
     #[tactic(auto, unfolding(crate::specs::Transforms::finish, crate::proofs::Steps::steps))]
     pub fn tmake_var(
         self,
-        tables: &mut Tables,
+        rows: &mut [u32],
+        cells: &mut [u32],
         i: u32,
         op: Op,
         n: u32,
         rule: Rule,
         refs: Refs,
     ) -> Answer<(u32, u32)>
-        ensures { end result tables.new ≡ finish i op (make_var n) (rule_number rule) refs (over tables.old self) }
+        ensures { end result rows.new cells.new ≡ finish i op (make_var n) (rule_number rule) refs (machine rows.old cells.old self) }
     {
-        let (s, out) = self.intern(tables, kinds::VAR, n, 0, 0)?;
-        s.finish(tables, i, op, out, rule, refs)
+        let (s, out) = self.intern(rows, cells, kinds::VAR, n, 0, 0)?;
+        s.finish(rows, cells, i, op, out, rule, refs)
     }
 
     // The variable `n`, shifted from `k` on.
@@ -223,20 +227,29 @@ impl State {
     pub fn tvar_shift(
         self,
         left: u32,
-        tables: &mut Tables,
+        rows: &mut [u32],
+        cells: &mut [u32],
         i: u32,
         n: u32,
         k: u32,
     ) -> Answer<(u32, u32)>
-        ensures { end result tables.new ≡ tvar_shift (callees left) i n k (over tables.old self) }
+        ensures { end result rows.new cells.new ≡ tvar_shift (callees left) i n k (machine rows.old cells.old self) }
     {
         let op = Op::Shift(k);
         if n < k {
-            let (s, x) = self.comparison(left, tables, n, k, true)?;
-            return s.finish(tables, i, op, i, Rule::ShiftVLt, cite([x]));
+            let (s, x) = self.comparison(left, rows, cells, n, k, true)?;
+            return s.finish(rows, cells, i, op, i, Rule::ShiftVLt, cite([x]));
         }
-        let (s, x) = self.comparison(left, tables, k, n, false)?;
-        s.tmake_var(tables, i, op, n.wrapping_add(1), Rule::ShiftVGe, cite([x]))
+        let (s, x) = self.comparison(left, rows, cells, k, n, false)?;
+        s.tmake_var(
+            rows,
+            cells,
+            i,
+            op,
+            n.wrapping_add(1),
+            Rule::ShiftVGe,
+            cite([x]),
+        )
     }
 
     // The variable `n`, where `r` is put for `k`.
@@ -244,68 +257,91 @@ impl State {
     pub fn tvar_subst(
         self,
         left: u32,
-        tables: &mut Tables,
+        rows: &mut [u32],
+        cells: &mut [u32],
         i: u32,
         n: u32,
         k: u32,
         r: u32,
     ) -> Answer<(u32, u32)>
-        ensures { end result tables.new ≡ tvar_subst (callees left) i n k r (over tables.old self) }
+        ensures { end result rows.new cells.new ≡ tvar_subst (callees left) i n k r (machine rows.old cells.old self) }
     {
         let op = Op::Subst(k, r);
         if n == k {
-            return self.finish(tables, i, op, r, Rule::SubstVHit, cite([]));
+            return self.finish(rows, cells, i, op, r, Rule::SubstVHit, cite([]));
         }
         if n < k {
-            let (s, x) = self.comparison(left, tables, n, k, true)?;
-            return s.finish(tables, i, op, i, Rule::SubstVLt, cite([x]));
+            let (s, x) = self.comparison(left, rows, cells, n, k, true)?;
+            return s.finish(rows, cells, i, op, i, Rule::SubstVLt, cite([x]));
         }
-        let (s, x) = self.comparison(left, tables, k, n, true)?;
-        s.tmake_var(tables, i, op, n - 1, Rule::SubstVGt, cite([x]))
+        let (s, x) = self.comparison(left, rows, cells, k, n, true)?;
+        s.tmake_var(rows, cells, i, op, n - 1, Rule::SubstVGt, cite([x]))
     }
 
     // The variable `n`.
     #[tactic(auto, unfolding(crate::specs::Transforms::tvar, crate::proofs::Steps::steps, crate::proofs::Steps::stated))]
-    pub fn tvar(self, left: u32, tables: &mut Tables, i: u32, n: u32, op: Op) -> Answer<(u32, u32)>
-        ensures { end result tables.new ≡ tvar (callees left) i n op (over tables.old self) }
+    pub fn tvar(
+        self,
+        left: u32,
+        rows: &mut [u32],
+        cells: &mut [u32],
+        i: u32,
+        n: u32,
+        op: Op,
+    ) -> Answer<(u32, u32)>
+        ensures { end result rows.new cells.new ≡ tvar (callees left) i n op (machine rows.old cells.old self) }
     {
         match op {
-            Op::Shift(k) => self.tvar_shift(left, tables, i, n, k),
-            Op::Subst(k, r) => self.tvar_subst(left, tables, i, n, k, r),
-            Op::DShift(_) => self.finish(tables, i, op, i, Rule::DShiftV, cite([])),
-            Op::DSubst(_, _) => self.finish(tables, i, op, i, Rule::DSubstV, cite([])),
+            Op::Shift(k) => self.tvar_shift(left, rows, cells, i, n, k),
+            Op::Subst(k, r) => self.tvar_subst(left, rows, cells, i, n, k, r),
+            Op::DShift(_) => self.finish(rows, cells, i, op, i, Rule::DShiftV, cite([])),
+            Op::DSubst(_, _) => self.finish(rows, cells, i, op, i, Rule::DSubstV, cite([])),
         }
     }
 
     // The interval of a papp, with the rows that this cites.
     #[tactic(auto, unfolding(crate::specs::Transforms::tinterval, crate::proofs::Steps::steps, crate::proofs::Steps::stated))]
-    pub fn tinterval(self, left: u32, tables: &mut Tables, r: u32, op: Op) -> Answer<(u32, Refs)>
-        ensures { end result tables.new ≡ tinterval (callees left) r op (over tables.old self) }
+    pub fn tinterval(
+        self,
+        left: u32,
+        rows: &mut [u32],
+        cells: &mut [u32],
+        r: u32,
+        op: Op,
+    ) -> Answer<(u32, Refs)>
+        ensures { end result rows.new cells.new ≡ tinterval (callees left) r op (machine rows.old cells.old self) }
     {
         let within = match op {
             Op::Shift(_) | Op::Subst(_, _) => return Ok((self, (r, cite([])))),
             Op::DShift(k) => IOp::IShift(k),
             Op::DSubst(k, q) => IOp::ISubst(k, q),
         };
-        let (s, (out, x)) = self.itransform(left, tables, r, within)?;
+        let (s, (out, x)) = self.itransform(left, rows, cells, r, within)?;
         Ok((s, (out, cite([x]))))
     }
 
     // The term with its variables or dimensions shifted or substituted: the result, and the row.
     #[cycle(transform)]
-    pub fn transform(self, left: u32, tables: &mut Tables, i: u32, op: Op) -> Answer<(u32, u32)>
-        ensures { end result tables.new ≡ (callees left).transform i op (over tables.old self) }
+    pub fn transform(
+        self,
+        left: u32,
+        rows: &mut [u32],
+        cells: &mut [u32],
+        i: u32,
+        op: Op,
+    ) -> Answer<(u32, u32)>
+        ensures { end result rows.new cells.new ≡ (callees left).transform i op (machine rows.old cells.old self) }
     {
         if left == 0 {
             return Err(self.refused(refusals::NESTING));
         }
         let down = left - 1;
         let s0 = self.deeper(down);
-        let cell = tables.read(i);
+        let cell = read(cells, i);
         if cell.kind == kinds::VAR {
-            return s0.tvar(down, tables, i, cell.a, op);
+            return s0.tvar(down, rows, cells, i, cell.a, op);
         }
-        s0.compound(down, tables, i, op, cell)
+        s0.compound(down, rows, cells, i, op, cell)
     }
 
     // A term that is no variable: by its kind, and as it is where it has no parts.
@@ -313,25 +349,26 @@ impl State {
     pub fn compound(
         self,
         left: u32,
-        tables: &mut Tables,
+        rows: &mut [u32],
+        cells: &mut [u32],
         i: u32,
         op: Op,
         cell: Cell,
     ) -> Answer<(u32, u32)>
-        ensures { end result tables.new ≡ compound (callees left) i op cell (over tables.old self) }
+        ensures { end result rows.new cells.new ≡ compound (callees left) i op cell (machine rows.old cells.old self) }
     {
         match cell.kind {
-            kinds::PI => self.tbinder(left, tables, i, op, kinds::PI, cell.a, cell.b),
-            kinds::LAM => self.tlam(left, tables, i, op, cell.a, cell.b),
-            kinds::APP => self.tapp(left, tables, i, op, cell.a, cell.b),
-            kinds::PATH => self.tpath(left, tables, i, op, cell.a, cell.b, cell.c),
-            kinds::PLAM => self.tplam(left, tables, i, op, cell.a, cell.b),
-            kinds::PAPP => self.tpapp(left, tables, i, op, cell.a, cell.b),
-            kinds::SIGMA => self.tbinder(left, tables, i, op, kinds::SIGMA, cell.a, cell.b),
-            kinds::PAIR => self.tpair(left, tables, i, op, cell.a, cell.b, cell.c),
-            kinds::FST => self.tproject(left, tables, i, op, kinds::FST, cell.a),
-            kinds::SND => self.tproject(left, tables, i, op, kinds::SND, cell.a),
-            kind => self.finish(tables, i, op, i, rule_of(op, kind), cite([])),
+            kinds::PI => self.tbinder(left, rows, cells, i, op, kinds::PI, cell.a, cell.b),
+            kinds::LAM => self.tlam(left, rows, cells, i, op, cell.a, cell.b),
+            kinds::APP => self.tapp(left, rows, cells, i, op, cell.a, cell.b),
+            kinds::PATH => self.tpath(left, rows, cells, i, op, cell.a, cell.b, cell.c),
+            kinds::PLAM => self.tplam(left, rows, cells, i, op, cell.a, cell.b),
+            kinds::PAPP => self.tpapp(left, rows, cells, i, op, cell.a, cell.b),
+            kinds::SIGMA => self.tbinder(left, rows, cells, i, op, kinds::SIGMA, cell.a, cell.b),
+            kinds::PAIR => self.tpair(left, rows, cells, i, op, cell.a, cell.b, cell.c),
+            kinds::FST => self.tproject(left, rows, cells, i, op, kinds::FST, cell.a),
+            kinds::SND => self.tproject(left, rows, cells, i, op, kinds::SND, cell.a),
+            kind => self.finish(rows, cells, i, op, i, rule_of(op, kind), cite([])),
         }
     }
 
@@ -340,20 +377,22 @@ impl State {
     pub fn tbinder(
         self,
         left: u32,
-        tables: &mut Tables,
+        rows: &mut [u32],
+        cells: &mut [u32],
         i: u32,
         op: Op,
         kind: u32,
         a: u32,
         b: u32,
     ) -> Answer<(u32, u32)>
-        ensures { end result tables.new ≡ transform_binder (callees left) i op kind a b (over tables.old self) }
+        ensures { end result rows.new cells.new ≡ transform_binder (callees left) i op kind a b (machine rows.old cells.old self) }
     {
-        let (s1, (a1, x)) = self.transform(left, tables, a, op)?;
-        let (s2, (inner, first)) = s1.under(left, tables, op, false)?;
-        let (s3, (b1, y)) = s2.transform(left, tables, b, inner)?;
+        let (s1, (a1, x)) = self.transform(left, rows, cells, a, op)?;
+        let (s2, (inner, first)) = s1.under(left, rows, cells, op, false)?;
+        let (s3, (b1, y)) = s2.transform(left, rows, cells, b, inner)?;
         s3.tmake(
-            tables,
+            rows,
+            cells,
             i,
             op,
             kind,
@@ -369,19 +408,21 @@ impl State {
     pub fn tlam(
         self,
         left: u32,
-        tables: &mut Tables,
+        rows: &mut [u32],
+        cells: &mut [u32],
         i: u32,
         op: Op,
         a: u32,
         b: u32,
     ) -> Answer<(u32, u32)>
-        ensures { end result tables.new ≡ transform_lam (callees left) i op a b (over tables.old self) }
+        ensures { end result rows.new cells.new ≡ transform_lam (callees left) i op a b (machine rows.old cells.old self) }
     {
-        let (s1, (a1, _)) = self.transform(left, tables, a, op)?;
-        let (s2, (inner, first)) = s1.under(left, tables, op, false)?;
-        let (s3, (b1, y)) = s2.transform(left, tables, b, inner)?;
+        let (s1, (a1, _)) = self.transform(left, rows, cells, a, op)?;
+        let (s2, (inner, first)) = s1.under(left, rows, cells, op, false)?;
+        let (s3, (b1, y)) = s2.transform(left, rows, cells, b, inner)?;
         s3.tmake(
-            tables,
+            rows,
+            cells,
             i,
             op,
             kinds::LAM,
@@ -397,17 +438,18 @@ impl State {
     pub fn tapp(
         self,
         left: u32,
-        tables: &mut Tables,
+        rows: &mut [u32],
+        cells: &mut [u32],
         i: u32,
         op: Op,
         f: u32,
         a: u32,
     ) -> Answer<(u32, u32)>
-        ensures { end result tables.new ≡ transform_app (callees left) i op f a (over tables.old self) }
+        ensures { end result rows.new cells.new ≡ transform_app (callees left) i op f a (machine rows.old cells.old self) }
     {
-        let (s1, (f1, x)) = self.transform(left, tables, f, op)?;
-        let (s2, (a1, y)) = s1.transform(left, tables, a, op)?;
-        s2.tmake(tables, i, op, kinds::APP, f1, a1, 0, cite([x, y]))
+        let (s1, (f1, x)) = self.transform(left, rows, cells, f, op)?;
+        let (s2, (a1, y)) = s1.transform(left, rows, cells, a, op)?;
+        s2.tmake(rows, cells, i, op, kinds::APP, f1, a1, 0, cite([x, y]))
     }
 
     // A path type: its first part lies under a dimension.
@@ -415,21 +457,23 @@ impl State {
     pub fn tpath(
         self,
         left: u32,
-        tables: &mut Tables,
+        rows: &mut [u32],
+        cells: &mut [u32],
         i: u32,
         op: Op,
         a: u32,
         b: u32,
         c: u32,
     ) -> Answer<(u32, u32)>
-        ensures { end result tables.new ≡ transform_path (callees left) i op a b c (over tables.old self) }
+        ensures { end result rows.new cells.new ≡ transform_path (callees left) i op a b c (machine rows.old cells.old self) }
     {
-        let (s0, (inner, first)) = self.under(left, tables, op, true)?;
-        let (s1, (a1, x)) = s0.transform(left, tables, a, inner)?;
-        let (s2, (b1, y)) = s1.transform(left, tables, b, op)?;
-        let (s3, (c1, z)) = s2.transform(left, tables, c, op)?;
+        let (s0, (inner, first)) = self.under(left, rows, cells, op, true)?;
+        let (s1, (a1, x)) = s0.transform(left, rows, cells, a, inner)?;
+        let (s2, (b1, y)) = s1.transform(left, rows, cells, b, op)?;
+        let (s3, (c1, z)) = s2.transform(left, rows, cells, c, op)?;
         s3.tmake(
-            tables,
+            rows,
+            cells,
             i,
             op,
             kinds::PATH,
@@ -445,19 +489,21 @@ impl State {
     pub fn tplam(
         self,
         left: u32,
-        tables: &mut Tables,
+        rows: &mut [u32],
+        cells: &mut [u32],
         i: u32,
         op: Op,
         a: u32,
         b: u32,
     ) -> Answer<(u32, u32)>
-        ensures { end result tables.new ≡ transform_plam (callees left) i op a b (over tables.old self) }
+        ensures { end result rows.new cells.new ≡ transform_plam (callees left) i op a b (machine rows.old cells.old self) }
     {
-        let (s0, (inner, first)) = self.under(left, tables, op, true)?;
-        let (s1, (a1, _)) = s0.transform(left, tables, a, inner)?;
-        let (s2, (b1, y)) = s1.transform(left, tables, b, inner)?;
+        let (s0, (inner, first)) = self.under(left, rows, cells, op, true)?;
+        let (s1, (a1, _)) = s0.transform(left, rows, cells, a, inner)?;
+        let (s2, (b1, y)) = s1.transform(left, rows, cells, b, inner)?;
         s2.tmake(
-            tables,
+            rows,
+            cells,
             i,
             op,
             kinds::PLAM,
@@ -473,17 +519,28 @@ impl State {
     pub fn tpapp(
         self,
         left: u32,
-        tables: &mut Tables,
+        rows: &mut [u32],
+        cells: &mut [u32],
         i: u32,
         op: Op,
         p: u32,
         r: u32,
     ) -> Answer<(u32, u32)>
-        ensures { end result tables.new ≡ transform_papp (callees left) i op p r (over tables.old self) }
+        ensures { end result rows.new cells.new ≡ transform_papp (callees left) i op p r (machine rows.old cells.old self) }
     {
-        let (s1, (p1, x)) = self.transform(left, tables, p, op)?;
-        let (s2, (r1, rest)) = s1.tinterval(left, tables, r, op)?;
-        s2.tmake(tables, i, op, kinds::PAPP, p1, r1, 0, cite_before(x, rest))
+        let (s1, (p1, x)) = self.transform(left, rows, cells, p, op)?;
+        let (s2, (r1, rest)) = s1.tinterval(left, rows, cells, r, op)?;
+        s2.tmake(
+            rows,
+            cells,
+            i,
+            op,
+            kinds::PAPP,
+            p1,
+            r1,
+            0,
+            cite_before(x, rest),
+        )
     }
 
     // A pair: as of a lam, the annotation's row is not cited.
@@ -491,19 +548,20 @@ impl State {
     pub fn tpair(
         self,
         left: u32,
-        tables: &mut Tables,
+        rows: &mut [u32],
+        cells: &mut [u32],
         i: u32,
         op: Op,
         ty: u32,
         a: u32,
         b: u32,
     ) -> Answer<(u32, u32)>
-        ensures { end result tables.new ≡ transform_pair (callees left) i op ty a b (over tables.old self) }
+        ensures { end result rows.new cells.new ≡ transform_pair (callees left) i op ty a b (machine rows.old cells.old self) }
     {
-        let (s1, (ty1, _)) = self.transform(left, tables, ty, op)?;
-        let (s2, (a1, x)) = s1.transform(left, tables, a, op)?;
-        let (s3, (b1, y)) = s2.transform(left, tables, b, op)?;
-        s3.tmake(tables, i, op, kinds::PAIR, ty1, a1, b1, cite([x, y]))
+        let (s1, (ty1, _)) = self.transform(left, rows, cells, ty, op)?;
+        let (s2, (a1, x)) = s1.transform(left, rows, cells, a, op)?;
+        let (s3, (b1, y)) = s2.transform(left, rows, cells, b, op)?;
+        s3.tmake(rows, cells, i, op, kinds::PAIR, ty1, a1, b1, cite([x, y]))
     }
 
     // One part: a projection.
@@ -511,16 +569,17 @@ impl State {
     pub fn tproject(
         self,
         left: u32,
-        tables: &mut Tables,
+        rows: &mut [u32],
+        cells: &mut [u32],
         i: u32,
         op: Op,
         kind: u32,
         p: u32,
     ) -> Answer<(u32, u32)>
-        ensures { end result tables.new ≡ transform_projection (callees left) i op kind p (over tables.old self) }
+        ensures { end result rows.new cells.new ≡ transform_projection (callees left) i op kind p (machine rows.old cells.old self) }
     {
-        let (s1, (p1, x)) = self.transform(left, tables, p, op)?;
-        s1.tmake(tables, i, op, kind, p1, 0, 0, cite([x]))
+        let (s1, (p1, x)) = self.transform(left, rows, cells, p, op)?;
+        s1.tmake(rows, cells, i, op, kind, p1, 0, 0, cite([x]))
     }
 
     // The operation under one more binder, of a dimension or of a variable, with the rows that this cites.
@@ -528,11 +587,12 @@ impl State {
     pub fn under(
         self,
         left: u32,
-        tables: &mut Tables,
+        rows: &mut [u32],
+        cells: &mut [u32],
         op: Op,
         dimension: bool,
     ) -> Answer<(Op, Refs)>
-        ensures { end result tables.new ≡ (callees left).under op dimension (over tables.old self) }
+        ensures { end result rows.new cells.new ≡ (callees left).under op dimension (machine rows.old cells.old self) }
     {
         if left == 0 {
             return Err(self.refused(refusals::NESTING));
@@ -546,7 +606,7 @@ impl State {
                 }
                 Ok((s0, (Op::Shift(k.wrapping_add(1)), cite([]))))
             }
-            Op::Subst(k, r) => s0.under_subst(down, tables, k, r, dimension),
+            Op::Subst(k, r) => s0.under_subst(down, rows, cells, k, r, dimension),
             Op::DShift(k) => {
                 if dimension {
                     return Ok((s0, (Op::DShift(k.wrapping_add(1)), cite([]))));
@@ -555,7 +615,7 @@ impl State {
             }
             Op::DSubst(k, r) => {
                 if dimension {
-                    let (s, (r1, x)) = s0.itransform(down, tables, r, IOp::IShift(0))?;
+                    let (s, (r1, x)) = s0.itransform(down, rows, cells, r, IOp::IShift(0))?;
                     return Ok((s, (Op::DSubst(k.wrapping_add(1), r1), cite([x]))));
                 }
                 Ok((s0, (op, cite([]))))
@@ -568,18 +628,19 @@ impl State {
     pub fn under_subst(
         self,
         left: u32,
-        tables: &mut Tables,
+        rows: &mut [u32],
+        cells: &mut [u32],
         k: u32,
         r: u32,
         dimension: bool,
     ) -> Answer<(Op, Refs)>
-        ensures { end result tables.new ≡ under_subst (callees left) k r dimension (over tables.old self) }
+        ensures { end result rows.new cells.new ≡ under_subst (callees left) k r dimension (machine rows.old cells.old self) }
     {
         if dimension {
-            let (s, (r1, x)) = self.transform(left, tables, r, Op::DShift(0))?;
+            let (s, (r1, x)) = self.transform(left, rows, cells, r, Op::DShift(0))?;
             return Ok((s, (Op::Subst(k, r1), cite([x]))));
         }
-        let (s, (r1, x)) = self.transform(left, tables, r, Op::Shift(0))?;
+        let (s, (r1, x)) = self.transform(left, rows, cells, r, Op::Shift(0))?;
         Ok((s, (Op::Subst(k.wrapping_add(1), r1), cite([x]))))
     }
 }

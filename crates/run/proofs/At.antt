@@ -8,7 +8,6 @@ use native.Mathlib.Numerals.{sub-one}
 use Rattle.walk.specs.Refusal as Refusal
 use Rattle.ast.specs.Words.{up}
 use Rattle.std.specs.Prelude.{Ok, Err}
-use Rattle.producer.specs.declared.Tables.{Tables}
 use Rattle.producer.specs.Answers.{Answer, end}
 use Rattle.producer.specs.Machine.{Machine, give, stop}
 pub use Rattle.producer.proofs.At.{residual}
@@ -34,10 +33,10 @@ scoped_in zero bytes at g w h = absurd (h refl)
 scoped_in (suc k) bytes at g w h = rw sub-one
 
 -- the answer of a call, over what it leaves
-pub told_end : (answer : Answer (ℕ × ℕ)) (next : ℕ) (t : Tables) → told (end answer t) next ≡ turn_end (answered_of answer next) t.rows.now t.cells.now
+pub told_end : (answer : Answer (ℕ × ℕ)) (next : ℕ) (R C : List ℕ) → told (end answer R C) next ≡ turn_end (answered_of answer next) R C
 unfolding told end answered_of
-told_end (Ok (s, (x, y))) next t = refl
-told_end (Err e) next t = refl
+told_end (Ok (s, (x, y))) next R C = refl
+told_end (Err e) next R C = refl
 
 -- one call played, and none
 pub played_turn : (left room : ℕ) (bytes : List ℕ) (at done : ℕ) (w : Machine) (A : List ℕ) (t : Told) (now : ℕ) → now ≡ room → t ≡ turned now bytes at w → 0 < left → played left room bytes at done w A ≡ played (left - 1) room bytes t.next (up done) t.left (sets A (done * 4) (t.number ∷ t.row ∷ t.result ∷ t.deepest ∷ []))
@@ -49,3 +48,11 @@ pub played_none : (left room : ℕ) (bytes : List ℕ) (at done : ℕ) (w : Mach
 unfolding played
 played_none zero room bytes at done w A h = refl
 played_none (suc left) room bytes at done w A h = absurd (omega arith)
+
+-- one of so many calls is played
+pub played_next : (calls i room : ℕ) (bytes : List ℕ) (at : ℕ) (w : Machine) (A : List ℕ) (t : Told) (now : ℕ) → calls < 4294967296 → now ≡ room → t ≡ turned now bytes at w → i < calls → played (calls - i) room bytes at i w A ≡ played (calls - (i + 1)) room bytes t.next (i + 1) t.left (sets A (i * 4) (t.number ∷ t.row ∷ t.result ∷ t.deepest ∷ []))
+unfolding up
+played_next calls i room bytes at w A t now b q e h =
+    let m : (i + 1) % 4294967296 ≡ i + 1 = grind (arith, common_steps) in
+    let s : calls - i - 1 ≡ calls - (i + 1) = omega arith in
+    rw (played_turn (calls - i) room bytes at i w A t now q e (omega arith), m, s)

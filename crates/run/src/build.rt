@@ -3,12 +3,12 @@
 // are refused as unread, which is never met in a run that was read.
 ghost use Rattle.std.specs.Prelude.{◌≡◌};
 ghost use Rattle.producer.specs.Answers.{end};
-ghost use Rattle.producer.specs.Machine.{over};
+ghost use Rattle.producer.specs.Machine.{machine};
 ghost use Rattle.run.specs.Build.{byte_at, parts_of, built, built_one, built_two, built_three, scoped};
 
 use ast::{kinds, refusals};
+use producer::State;
 use producer::answers::Answer;
-use producer::{State, Tables};
 
 // The deepest that a term nests, counted from 1.
 pub const DEPTH: u32 = 33;
@@ -66,9 +66,10 @@ pub fn build(
     left: u32,
     bytes: &[u8],
     at: u32,
-    tables: &mut Tables,
+    rows: &[u32],
+    cells: &mut [u32],
 ) -> Answer<(u32, u32)>
-    ensures { end result tables.new ≡ built left bytes.now at (over tables.old state) }
+    ensures { end result rows.now cells.new ≡ built left bytes.now at (machine rows.now cells.old state) }
 {
     if left == 0 {
         return Err(state.refused(refusals::UNREAD));
@@ -78,16 +79,16 @@ pub fn build(
     let next = at.wrapping_add(1);
     match parts(kind) {
         1 => {
-            let (s, cell) = state.intern(tables, kind, 0, 0, 0)?;
+            let (s, cell) = state.intern(rows, cells, kind, 0, 0, 0)?;
             Ok((s, (cell, next)))
         }
         2 => {
-            let (s, cell) = state.intern(tables, kind, byte(bytes, next), 0, 0)?;
+            let (s, cell) = state.intern(rows, cells, kind, byte(bytes, next), 0, 0)?;
             Ok((s, (cell, next.wrapping_add(1))))
         }
-        3 => one(state, down, bytes, next, tables, kind),
-        4 => two(state, down, bytes, next, tables, kind),
-        5 => three(state, down, bytes, next, tables, kind),
+        3 => one(state, down, bytes, next, rows, cells, kind),
+        4 => two(state, down, bytes, next, rows, cells, kind),
+        5 => three(state, down, bytes, next, rows, cells, kind),
         _ => Err(state.refused(refusals::UNREAD)),
     }
 }
@@ -99,13 +100,14 @@ pub fn one(
     left: u32,
     bytes: &[u8],
     at: u32,
-    tables: &mut Tables,
+    rows: &[u32],
+    cells: &mut [u32],
     kind: u32,
 ) -> Answer<(u32, u32)>
-    ensures { end result tables.new ≡ built_one (built left bytes.now) at kind (over tables.old state) }
+    ensures { end result rows.now cells.new ≡ built_one (built left bytes.now) at kind (machine rows.now cells.old state) }
 {
-    let (s1, (a, next)) = build(state, left, bytes, at, tables)?;
-    let (s, cell) = s1.intern(tables, kind, a, 0, 0)?;
+    let (s1, (a, next)) = build(state, left, bytes, at, rows, cells)?;
+    let (s, cell) = s1.intern(rows, cells, kind, a, 0, 0)?;
     Ok((s, (cell, next)))
 }
 
@@ -116,14 +118,15 @@ pub fn two(
     left: u32,
     bytes: &[u8],
     at: u32,
-    tables: &mut Tables,
+    rows: &[u32],
+    cells: &mut [u32],
     kind: u32,
 ) -> Answer<(u32, u32)>
-    ensures { end result tables.new ≡ built_two (built left bytes.now) at kind (over tables.old state) }
+    ensures { end result rows.now cells.new ≡ built_two (built left bytes.now) at kind (machine rows.now cells.old state) }
 {
-    let (s1, (a, middle)) = build(state, left, bytes, at, tables)?;
-    let (s2, (b, next)) = build(s1, left, bytes, middle, tables)?;
-    let (s, cell) = s2.intern(tables, kind, a, b, 0)?;
+    let (s1, (a, middle)) = build(state, left, bytes, at, rows, cells)?;
+    let (s2, (b, next)) = build(s1, left, bytes, middle, rows, cells)?;
+    let (s, cell) = s2.intern(rows, cells, kind, a, b, 0)?;
     Ok((s, (cell, next)))
 }
 
@@ -134,15 +137,16 @@ pub fn three(
     left: u32,
     bytes: &[u8],
     at: u32,
-    tables: &mut Tables,
+    rows: &[u32],
+    cells: &mut [u32],
     kind: u32,
 ) -> Answer<(u32, u32)>
-    ensures { end result tables.new ≡ built_three (built left bytes.now) at kind (over tables.old state) }
+    ensures { end result rows.now cells.new ≡ built_three (built left bytes.now) at kind (machine rows.now cells.old state) }
 {
-    let (s1, (a, second)) = build(state, left, bytes, at, tables)?;
-    let (s2, (b, third)) = build(s1, left, bytes, second, tables)?;
-    let (s3, (c, next)) = build(s2, left, bytes, third, tables)?;
-    let (s, cell) = s3.intern(tables, kind, a, b, c)?;
+    let (s1, (a, second)) = build(state, left, bytes, at, rows, cells)?;
+    let (s2, (b, third)) = build(s1, left, bytes, second, rows, cells)?;
+    let (s3, (c, next)) = build(s2, left, bytes, third, rows, cells)?;
+    let (s, cell) = s3.intern(rows, cells, kind, a, b, c)?;
     Ok((s, (cell, next)))
 }
 
@@ -152,16 +156,17 @@ pub fn scope(
     left: u32,
     bytes: &[u8],
     at: u32,
-    tables: &mut Tables,
+    rows: &[u32],
+    cells: &mut [u32],
     g: u32,
 ) -> Answer<(u32, u32)>
-    ensures { end result tables.new ≡ scoped left bytes.now at g (over tables.old state) }
+    ensures { end result rows.now cells.new ≡ scoped left bytes.now at g (machine rows.now cells.old state) }
 {
     if left == 0 {
         return Ok((state, (g, at)));
     }
     let down = left - 1;
-    let (s1, (a, next)) = build(state, DEPTH, bytes, at, tables)?;
-    let (s2, h) = s1.intern(tables, kinds::CONS, a, g, 0)?;
-    scope(s2, down, bytes, next, tables, h)
+    let (s1, (a, next)) = build(state, DEPTH, bytes, at, rows, cells)?;
+    let (s2, h) = s1.intern(rows, cells, kinds::CONS, a, g, 0)?;
+    scope(s2, down, bytes, next, rows, cells, h)
 }

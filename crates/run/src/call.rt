@@ -2,13 +2,14 @@
 // its arguments take cells: 19, deepest, then 20.
 ghost use Rattle.std.specs.Prelude.{◌≡◌};
 ghost use Rattle.producer.specs.Answers.{end};
-ghost use Rattle.producer.specs.Machine.{over};
+ghost use Rattle.producer.specs.Machine.{machine};
 ghost use Rattle.run.specs.Call.{with_term, with_sides, by_code, with_context, called};
 
 use crate::build::{DEPTH, build, scope, wide};
+use ast::cells::quote;
 use ast::kinds::NIL;
+use producer::State;
 use producer::answers::Answer;
-use producer::{State, Tables};
 use syntax::{CallHead, Code};
 
 // The row and the result of the call at `at`, which has this head, or its refusal. A result that is a term is the lowest cell with
@@ -19,15 +20,16 @@ pub fn call(
     bytes: &[u8],
     at: u32,
     head: CallHead,
-    tables: &mut Tables,
+    rows: &mut [u32],
+    cells: &mut [u32],
 ) -> Answer<(u32, u32)>
-    ensures { end result tables.new ≡ called bytes.now at head (over tables.old state) }
+    ensures { end result rows.new cells.new ≡ called bytes.now at head (machine rows.old cells.old state) }
 {
     let left = state.limit;
     let second = at.wrapping_add(1);
     let third = second.wrapping_add(1);
     let types = third.wrapping_add(1);
-    enter_context(state, left, bytes, types, head, tables)
+    enter_context(state, left, bytes, types, head, rows, cells)
 }
 
 // The context of a call, whose types start at `at`; then the function of its code.
@@ -38,18 +40,20 @@ pub fn enter_context(
     bytes: &[u8],
     at: u32,
     head: CallHead,
-    tables: &mut Tables,
+    rows: &mut [u32],
+    cells: &mut [u32],
 ) -> Answer<(u32, u32)>
-    ensures { end result tables.new ≡ with_context left bytes.now at head (over tables.old state) }
+    ensures { end result rows.new cells.new ≡ with_context left bytes.now at head (machine rows.old cells.old state) }
 {
-    let (s1, nil) = state.prepare(left, tables, NIL, 0, 0)?;
-    let (s2, (g, terms)) = scope(s1, wide(head.size), bytes, at, tables, nil)?;
+    let (s1, nil) = state.prepare(left, rows, cells, NIL, 0, 0)?;
+    let (s2, (g, terms)) = scope(s1, wide(head.size), bytes, at, rows, cells, nil)?;
     enter(
         s2,
         left,
         bytes,
         terms,
-        tables,
+        rows,
+        cells,
         head.code,
         wide(head.dims),
         g,
@@ -63,28 +67,29 @@ pub fn enter(
     left: u32,
     bytes: &[u8],
     at: u32,
-    tables: &mut Tables,
+    rows: &mut [u32],
+    cells: &mut [u32],
     code: Code,
     d: u32,
     g: u32,
 ) -> Answer<(u32, u32)>
-    ensures { end result tables.new ≡ by_code left bytes.now at code d g (over tables.old state) }
+    ensures { end result rows.new cells.new ≡ by_code left bytes.now at code d g (machine rows.old cells.old state) }
 {
     if let Code::Context = code {
-        let (s, row) = state.ctx(left, tables, d, g)?;
+        let (s, row) = state.ctx(left, rows, cells, d, g)?;
         return Ok((s, (row, 0)));
     }
-    let (s1, (t, next)) = build(state, DEPTH, bytes, at, tables)?;
+    let (s1, (t, next)) = build(state, DEPTH, bytes, at, rows, cells)?;
     match code {
         Code::Universe => {
-            let (s, (level, row)) = s1.universe(left, tables, d, g, t)?;
+            let (s, (level, row)) = s1.universe(left, rows, cells, d, g, t)?;
             Ok((s, (row, level)))
         }
         Code::Infer => {
-            let (s, (ty, row)) = s1.infer(left, tables, d, g, t)?;
-            Ok((s, (row, tables.quote(ty))))
+            let (s, (ty, row)) = s1.infer(left, rows, cells, d, g, t)?;
+            Ok((s, (row, quote(cells, ty))))
         }
-        _ => enter_two(s1, left, bytes, next, tables, code, d, g, t),
+        _ => enter_two(s1, left, bytes, next, rows, cells, code, d, g, t),
     }
 }
 
@@ -95,25 +100,26 @@ pub fn enter_two(
     left: u32,
     bytes: &[u8],
     at: u32,
-    tables: &mut Tables,
+    rows: &mut [u32],
+    cells: &mut [u32],
     code: Code,
     d: u32,
     g: u32,
     t: u32,
 ) -> Answer<(u32, u32)>
-    ensures { end result tables.new ≡ with_term left bytes.now at code d g t (over tables.old state) }
+    ensures { end result rows.new cells.new ≡ with_term left bytes.now at code d g t (machine rows.old cells.old state) }
 {
-    let (s1, (u, next)) = build(state, DEPTH, bytes, at, tables)?;
+    let (s1, (u, next)) = build(state, DEPTH, bytes, at, rows, cells)?;
     match code {
         Code::Check => {
-            let (s, row) = s1.check(left, tables, d, g, t, u)?;
+            let (s, row) = s1.check(left, rows, cells, d, g, t, u)?;
             Ok((s, (row, 0)))
         }
         Code::Normalise => {
-            let (s, (normal, row)) = s1.normalize(left, tables, d, g, t, u)?;
-            Ok((s, (row, tables.quote(normal))))
+            let (s, (normal, row)) = s1.normalize(left, rows, cells, d, g, t, u)?;
+            Ok((s, (row, quote(cells, normal))))
         }
-        _ => enter_equal(s1, left, bytes, next, tables, d, g, t, u),
+        _ => enter_equal(s1, left, bytes, next, rows, cells, d, g, t, u),
     }
 }
 
@@ -124,15 +130,16 @@ pub fn enter_equal(
     left: u32,
     bytes: &[u8],
     at: u32,
-    tables: &mut Tables,
+    rows: &mut [u32],
+    cells: &mut [u32],
     d: u32,
     g: u32,
     a: u32,
     b: u32,
 ) -> Answer<(u32, u32)>
-    ensures { end result tables.new ≡ with_sides left bytes.now at d g a b (over tables.old state) }
+    ensures { end result rows.new cells.new ≡ with_sides left bytes.now at d g a b (machine rows.old cells.old state) }
 {
-    let (s1, (ty, _)) = build(state, DEPTH, bytes, at, tables)?;
-    let (s, row) = s1.equal(left, tables, d, g, a, b, ty)?;
+    let (s1, (ty, _)) = build(state, DEPTH, bytes, at, rows, cells)?;
+    let (s, row) = s1.equal(left, rows, cells, d, g, a, b, ty)?;
     Ok((s, (row, 0)))
 }

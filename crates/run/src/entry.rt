@@ -1,15 +1,15 @@
 // The entry: a run of bytes over the three lent slices. A run that is refused as a whole changes nothing; words past the used ones stay.
 ghost use Rattle.std.specs.Prelude.{◌≡◌, ◌*◌, [], ◌∷◌, length};
 ghost use Rattle.std.proofs.lemmas.List.Edits.{sets};
-ghost use Rattle.producer.specs.Machine.{over};
+ghost use Rattle.producer.specs.Machine.{machine};
 ghost use Rattle.run.specs.Contract.{Runs};
 ghost use Rattle.run.specs.Run.{low_of, at_most, started, refused_of, answered_of, turn_end, turned, play_end, played, refused_run, end_run, run_of};
 
 use crate::call::call;
 use ast::refusals;
 use ast::words::put_all;
+use producer::State;
 use producer::answers::{Answer, Refused};
-use producer::{State, Tables};
 use ran::Ran;
 use syntax::{Unfit, Unread, scan_run, size_call};
 
@@ -96,14 +96,24 @@ fn answered(answer: Answer<(u32, u32)>, next: usize) -> Turn
 
 // The call at `at`: its limits first. In a run that was read, no size is bad or short.
 #[tactic(auto, unfolding(crate::specs::Run::turned, crate::specs::Run::turned_by, crate::proofs::Steps::steps))]
-fn step(state: State, bytes: &[u8], at: usize, stack: &mut [u8], tables: &mut Tables) -> Turn
-    ensures { turn_end result tables.new.rows.now tables.new.cells.now ≡ turned (length stack.old) bytes.now at (over tables.old state) }
+fn step(
+    state: State,
+    bytes: &[u8],
+    at: usize,
+    stack: &mut [u8],
+    rows: &mut [u32],
+    cells: &mut [u32],
+) -> Turn
+    ensures { turn_end result rows.new cells.new ≡ turned (length stack.old) bytes.now at (machine rows.old cells.old state) }
 {
     match size_call(bytes, at, stack) {
         Ok(fitting) => {
             let s = state.begin();
             let from = low(at);
-            answered(call(s, bytes, from, fitting.head, tables), fitting.next)
+            answered(
+                call(s, bytes, from, fitting.head, rows, cells),
+                fitting.next,
+            )
         }
         Err(Unfit::Refused(number, next)) => refused(state, number, next),
         Err(Unfit::Unread(Unread::Bad(place))) => refused(state, refusals::UNREAD, place),
@@ -125,15 +135,16 @@ fn play(
     calls: u32,
     bytes: &[u8],
     stack: &mut [u8],
-    tables: &mut Tables,
+    rows: &mut [u32],
+    cells: &mut [u32],
     answers: &mut [u32],
 ) -> State
-    ensures { play_end result tables.new.rows.now tables.new.cells.now answers.new ≡ played calls (length stack.old) bytes.now 2 0 (over tables.old state) answers.old }
+    ensures { play_end result rows.new cells.new answers.new ≡ played calls (length stack.old) bytes.now 2 0 (machine rows.old cells.old state) answers.old }
 {
     let mut s = state;
     let mut at: usize = 2;
     for i in 0..calls {
-        let turn = step(s, bytes, at, stack, tables);
+        let turn = step(s, bytes, at, stack, rows, cells);
         put_answer(answers, i, turn.number, turn.row, turn.result, turn.deepest);
         s = turn.state;
         at = turn.next;
@@ -176,8 +187,7 @@ fn play_run(bytes: &[u8], rows: &mut [u32], cells: &mut [u32], answers: &mut [u3
             let s = start(scanned.limit, rows.len(), cells.len());
             let count = low(scanned.calls);
             let mut stack = [0u8; 131073];
-            let mut tables = Tables { rows, cells };
-            let last = play(s, count, bytes, &mut stack, &mut tables, answers);
+            let last = play(s, count, bytes, &mut stack, rows, cells, answers);
             Ran {
                 number: 0,
                 place: 0,

@@ -91,7 +91,7 @@ check-returns-then-s1-ge32 t c = rw (law.check_in _ _ _ _ _ _ c.if-left-eq0.fals
 pub check-returns : goal.check-returns
 unfolding check_body steps stated
 check-returns t c = rw (law.check_in _ _ _ _ _ _ c.if-left-eq0.false, ← c.deeper-s0.ensures, ← c.in_ok-s1.ensures, ← c.same_quote.ensures, c.if-same_quote.false, lt-ltb _ _ c.if-s1-ge32.false)
-    (rw (← c.converting-s2.ensures, ← c.conv.ensures, law.ended_end _ _, ← c.ended.ensures))
+    (rw (← c.converting-s2.ensures, ← c.conv.ensures, law.ended_end _ _ _, ← c.ended.ensures))
 
 pub conv-returns-in_err-s1 : goal.conv-returns-in_err-s1
 unfolding converted steps stated
@@ -320,7 +320,7 @@ head-returns-then-s1-ge32 t c = rw (← c.in_ok-s1.ensures, ← c.read.ensures, 
 pub head-returns : goal.head-returns
 unfolding headed steps stated
 head-returns t c = rw (← c.in_ok-s1.ensures, ← c.read.ensures, ne_eqb _ _ c.if-read-kind.false, lt-ltb _ _ c.if-s1-ge32.false, ← c.converting-s2.ensures, ← c.expose.ensures)
-    (rw (law.ended_end _ _, ← c.ended.ensures))
+    (rw (law.ended_end _ _ _, ← c.ended.ensures))
 
 pub infer-returns-then-left-eq0 : goal.infer-returns-then-left-eq0
 unfolding infer_body new_infer steps stated
@@ -826,7 +826,7 @@ universe-returns-then-s1-ge32 t c = rw (law.universe_in _ _ _ _ _ c.if-left-eq0.
 pub universe-returns : goal.universe-returns
 unfolding universe_body steps stated
 universe-returns t c = rw (law.universe_in _ _ _ _ _ c.if-left-eq0.false, ← c.deeper-s0.ensures, ← c.in_ok-s1.ensures, ← c.shape_of.ensures, law.not_universe _ c.in_default.not-Universe, lt-ltb _ _ c.if-s1-ge32.false)
-    (rw (← c.converting-s2.ensures, ← c.sort.ensures, law.ended_end _ _, ← c.ended.ensures))
+    (rw (← c.converting-s2.ensures, ← c.sort.ensures, law.ended_end _ _ _, ← c.ended.ensures))
 
 pub var-returns-in_err-s1 : goal.var-returns-in_err-s1
 unfolding find_var steps stated

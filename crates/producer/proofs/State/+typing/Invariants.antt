@@ -2,7 +2,7 @@
 use Rattle.std.proofs.Common.{◌≡◌, ◌*◌, ◌+◌, ◌-◌, ◌≤◌}
 use Rattle.producer.specs.Calls.{callees}
 use Rattle.producer.specs.Equality.{rounds}
-use Rattle.producer.specs.Machine.{over}
+use Rattle.producer.specs.Machine.{machine}
 use Rattle.producer.proofs.State.+typing.Given as goal
 
 abbrev pub decreases-app : goal.decreases-app
@@ -94,4 +94,4 @@ decreases-var l = 4 * l.left + 1
 
 abbrev pub invariant-turns-loop : goal.invariant-turns-loop
 invariant-turns-loop l =
-    (l.counter ≤ 32) × (rounds 32 (callees l.left) l.d l.g l.t l.ty l.t l.evidence (over l.fn.tables l.fn.self) ≡ rounds (32 - l.counter) (callees l.left) l.d l.g l.t l.ty l.current l.row (over l.tables l.s))
+    (l.counter ≤ 32) × (rounds 32 (callees l.left) l.d l.g l.t l.ty l.t l.evidence (machine l.fn.rows l.fn.cells l.fn.self) ≡ rounds (32 - l.counter) (callees l.left) l.d l.g l.t l.ty l.current l.row (machine l.rows l.cells l.s))

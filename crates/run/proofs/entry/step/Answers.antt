@@ -6,4 +6,4 @@ use Rattle.run.proofs.entry.step.Goals as goal
 pub returns-in-Ok : goal.returns-in-Ok
 unfolding turned turned_by steps
 returns-in-Ok c = rw (← c.size_call.ensures, c.in-Ok.is, ← c.begin-s.ensures, ← c.low-from.ensures, ← c.call.ensures, c.answered.ensures)
-    (rw (law.told_end _ _ _))
+    (rw (law.told_end _ _ _ _))
