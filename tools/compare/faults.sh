@@ -51,10 +51,10 @@ fault 'no fault' '' '' ''
 fault "a lam's annotation is quoted" ast/src/cells.rt \
     '        kinds::LAM => true,' '        kinds::LAM => false,'
 fault 'two premises are cited the wrong way round' producer/src/typing.rt \
-    '                let refs = cite2(x, y);' '                let refs = cite2(y, x);'
+    '                    cite([x, y]),' '                    cite([y, x]),'
 fault '20 while there is space' run/src/entry.rt \
     '    let cellroom = cap(cells / 8, 4294967295);' '    let cellroom = cap(cells / 9, 4294967295);'
 fault 'a refused conversion is not ended' producer/src/answers.rt \
-    '            Got::Refused(s.converting(n), e)' '            Got::Refused(s, e)'
+    '            Err(left.refused(refused.number))' '            Err(refused)'
 [ "$failed" -eq 0 ] && echo "every fault is caught"
 exit "$failed"

@@ -101,6 +101,9 @@ impl Rule {{
 pub enum Judgment {{
 {judgments}}}
 
+// The kind of `Judgment::Ctx`, which `ctx` looks for before anything else.
+pub const IS_CTX: u32 = {next(j.number for j in JUDGMENTS if j.name == 'ctx')};
+
 // A judgment as a row has it: its kind, how many arguments it has, and these; 0 past the last.
 #[derive(Clone, Copy)]
 pub struct Words {{

@@ -43,11 +43,9 @@ pub fn ended<T>(answer: Answer<T>) -> Answer<T>
     match answer {
         Ok((s, found)) => Ok((s.converting(s.conversions.saturating_sub(1)), found)),
         Err(refused) => {
-            let s = refused.state;
-            Err(
-                s.converting(s.conversions.saturating_sub(1))
-                    .refused(refused.number),
-            )
+            let state = refused.state;
+            let left = state.converting(state.conversions.saturating_sub(1));
+            Err(left.refused(refused.number))
         }
     }
 }

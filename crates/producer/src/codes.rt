@@ -170,6 +170,9 @@ pub enum Judgment {
     Eq(u32, u32, u32, u32, u32),
 }
 
+// The kind of `Judgment::Ctx`, which `ctx` looks for before anything else.
+pub const IS_CTX: u32 = 0;
+
 // A judgment as a row has it: its kind, how many arguments it has, and these; 0 past the last.
 #[derive(Clone, Copy)]
 pub struct Words {

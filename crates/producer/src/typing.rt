@@ -9,7 +9,7 @@ ghost use Rattle.producer.specs.Calls.{callees};
 
 use crate::State;
 use crate::answers::{Answer, Inferred, ended};
-use crate::codes::{Judgment, Rule};
+use crate::codes::{IS_CTX, Judgment, Rule};
 use crate::rows::{cite, find_row};
 use crate::transforms::Op;
 use ast::cells::{Shape, read, recall, same_quote, shape_of};
@@ -27,7 +27,7 @@ impl State {
         let down = left - 1;
         let s0 = self.deeper(down);
         let cell = read(cells, g);
-        match find_row(rows, s0.rows, 0, d, cell.quote, 0, 0, 0) {
+        match find_row(rows, s0.rows, IS_CTX, d, cell.quote, 0, 0, 0) {
             Some(i) => Ok((s0, i)),
             None => {
                 if cell.kind == kinds::NIL {

@@ -1,5 +1,5 @@
 -- Laws that the proofs rewrite by: what recurses, where nothing is left and where something is.
-use Prim.Native.Nat.{ℕ, zero, suc, ◌*◌, ◌-◌, ◌<◌, ◌≤◌}
+use Prim.Native.Nat.{ℕ, zero, suc, ◌+◌, ◌*◌, ◌-◌, ◌%◌, ◌<◌, ◌≤◌}
 use mathlib.Core.Path.{◌≡◌, refl}
 use native.Mathlib.Omega.{arith}
 use mathlib.Core.List.{List, [], ◌∷◌}
@@ -53,6 +53,6 @@ played_none (suc left) room bytes at done w A h = absurd (omega arith)
 pub played_next : (calls i room : ℕ) (bytes : List ℕ) (at : ℕ) (w : Machine) (A : List ℕ) (t : Told) (now : ℕ) → calls < 4294967296 → now ≡ room → t ≡ turned now bytes at w → i < calls → played (calls - i) room bytes at i w A ≡ played (calls - (i + 1)) room bytes t.next (i + 1) t.left (sets A (i * 4) (t.number ∷ t.row ∷ t.result ∷ t.deepest ∷ []))
 unfolding up
 played_next calls i room bytes at w A t now b q e h =
-    let m : (i + 1) % 4294967296 ≡ i + 1 = grind (arith, common_steps) in
+    let m : (i + 1) % 4294967296 ≡ i + 1 = omega arith in
     let s : calls - i - 1 ≡ calls - (i + 1) = omega arith in
     rw (played_turn (calls - i) room bytes at i w A t now q e (omega arith), m, s)
