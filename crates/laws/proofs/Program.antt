@@ -4,7 +4,8 @@ use Rattle.std.specs.Prelude.{ℕ, ◌≡◌, refl, List}
 use Rattle.std.proofs.Common.{sym, arith}
 use Rattle.producer.specs.declared.intervals.IOp.{IOp as IOpWords}
 use Rattle.producer.specs.declared.transforms.Op.{Op as OpWords}
-use Rattle.producer.specs.Machine.{Machine, Result, is, end_2}
+use Rattle.producer.specs.Machine.{Machine, Result, is}
+use Rattle.producer.specs.Answers.{end}
 use Rattle.producer.specs.Calls.{callees}
 use Rattle.walk.specs.Syntax.{Interval, Term}
 use Rattle.walk.specs.State.{State, Thing, term, interval, Outcome}
@@ -72,7 +73,7 @@ module _ {o : Before} {w w' : Machine} {s : State} (h : Holds o w s) {cell cell'
 -- so of the code's
 
 pub called : {t t' : Term} {op : Op} → RanTransform t op t' → Called t op t'
-unfolding end_2
+unfolding end
 called {t} {t'} {op} c =
     let x = transform_walked c.holds c.left c.stands c.op_stands c.far (sym c.ensures) in
     let back = term_back x.holds x.stands in
@@ -80,7 +81,7 @@ called {t} {t'} {op} c =
     record { left = c.left; from = c.s; to = x.to; row = c.row; call = rw (← same_term) x.is_done }
 
 pub icalled : {r r' : Interval} {op : IOp} → RanItransform r op r' → ICalled r op r'
-unfolding end_2
+unfolding end
 icalled {r} {r'} {op} c =
     let x = itransform_walked c.holds c.left c.stands c.op_stands c.far (sym c.ensures) in
     let back = interval_read x.holds x.stands in
