@@ -7,7 +7,7 @@ ghost use Rattle.quotes.specs.Quotes.{cell_word, part_as, lower, quote};
 ghost use Rattle.quotes.specs.Judgments.{row_word, place, judgment_as};
 
 use ast::words::word;
-use rules::{Name, Part, Sort};
+use rules::{Name, Sort};
 use writer::Writer;
 
 // The words of a run's rows and cells. Past the end of either, every word is 0.

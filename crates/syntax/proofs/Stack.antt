@@ -31,16 +31,16 @@ module _ {X : Type 0} (means : ℕ → X) where
   piled_top words zero p = absurd (let z : ⊥ = omega arith in z)
   piled_top words (suc n) p = rw (sub-one (suc n))
 
-length-pushed : (words : List ℕ) (top depth : ℕ) (ps : List Part) → length (pushed words top depth ps) ≡ length words
-length-pushed words top depth [] = refl
-length-pushed words top depth (p ∷ ps) = length-set (pushed words top depth ps) (top + length ps) (word p + 3 * depth) ∙ length-pushed words top depth ps
+length_pushed : (words : List ℕ) (top depth : ℕ) (ps : List Part) → length (pushed words top depth ps) ≡ length words
+length_pushed words top depth [] = refl
+length_pushed words top depth (p ∷ ps) = length-set (pushed words top depth ps) (top + length ps) (word p + 3 * depth) ∙ length_pushed words top depth ps
 
 -- What is pushed lies on top, each word as what it stands for.
 pub piled_pushed : {X : Type 0} (means : ℕ → X) (what : Part → X) (words : List ℕ) (top depth : ℕ) (ps : List Part) → ((p : Part) → means (word p + 3 * depth) ≡ what p) → top + length ps ≤ length words → piled means (pushed words top depth ps) (top + length ps) ≡ map what ps ++ piled means words top
 unfolding piled
 piled_pushed means what words top depth [] each h = rw (add-zero top) refl
 piled_pushed means what words top depth (p ∷ ps) each h =
-    let inside : top + length ps < length (pushed words top depth ps) = omega (arith, length-pushed words top depth ps) in
+    let inside : top + length ps < length (pushed words top depth ps) = omega (arith, length_pushed words top depth ps) in
     rw (add-suc top (length ps), get_or-set_same (pushed words top depth ps) (top + length ps) (word p + 3 * depth) 0 inside, piled_set means (pushed words top depth ps) (top + length ps) (top + length ps) (word p + 3 * depth) (omega arith), each p, piled_pushed means what words top depth ps each (omega arith)) refl
 
 -- The word of a part at no depth is that part.
