@@ -1,9 +1,9 @@
 -- Laws of the count of repeats: call by call, and a call against those before it, the newest first. Assumes nothing.
-use Rattle.std.specs.Prelude.{◌≡◌, Bool, true, false, ◌||◌, ◌⊎◌, List, [], ◌∷◌, ◌++◌, cond}
+use Rattle.std.specs.Prelude.{◌≡◌, Bool, true, false, ◌||◌, ◌⊎◌, List, [], ◌∷◌, ◌++◌, cond, eqb}
 use Rattle.std.specs.List.{range_with_len, count_by}
 use Rattle.std.proofs.Math.Path.{refl}
 use Rattle.std.proofs.Common.{sym, ap, ◌∙◌, inl, inr, add-zero, zero-add, sub-one, eq-eqb, ne_eqb}
-use Prim.Native.Nat.{ℕ, zero, suc, ◌+◌, ◌-◌, ◌<◌}
+use Prim.Native.Nat.{ℕ, zero, suc, ◌+◌, ◌-◌, ◌<◌, ◌≤◌}
 use Rattle.std.proofs.Math.Nat.{sub-zero}
 use Rattle.std.proofs.Math.Decide.{ℕ_discrete}
 use Rattle.std.proofs.lemmas.List.{reverse-append}
@@ -23,6 +23,17 @@ occurs_no x y l h = rw (h, occurs)
 cases : (b : Bool) → (b ≡ true) ⊎ (b ≡ false)
 cases true = inl refl
 cases false = inr refl
+
+occurs_most : (x : Accepted) (l : List Accepted) → occurs x l ≤ 1
+unfolding occurs
+occurs_most x [] = omega arith
+occurs_most x (y ∷ l) = elim (cases (same x y)) [
+  | inl h ↦ (let e : occurs x (y ∷ l) ≡ 1 = occurs_yes x y l h in omega arith)
+  | inr h ↦ (let e : occurs x (y ∷ l) ≡ occurs x l = occurs_no x y l h in let r : occurs x l ≤ 1 = occurs_most x l in omega arith)
+]
+
+never : true ≡ false → ⊥
+never e = let z : ◌≡◌ {A = ℕ} 0 1 = cc in omega arith
 
 -- One more number, at the end.
 range_more : (a n : ℕ) → range_with_len a (suc n) ≡ range_with_len a n ++ (a + n) ∷ []
@@ -47,7 +58,7 @@ module _ (codes A : List ℕ) where
   is_no j c row h = rw (ne_eqb _ _ h, is_call)
 
   -- The accepted before call i, the newest first.
-  abbrev before : ℕ → List Accepted
+  abbrev pub before : ℕ → List Accepted
   before zero = []
   before (suc i) = with_call codes A i (before i)
 
@@ -81,13 +92,13 @@ module _ (codes A : List ℕ) where
     | inr e ↦ rw (one_more c row i (before i), seen_more c row i, e) (occurs_seen c row i)
   ]
 
-  repeat_yes : (i : ℕ) → answer_word A i 0 ≡ 0 → is_repeat codes A i ≡ seen codes A (code codes i) (answer_word A i 1) i
+  is_repeat_yes : (i : ℕ) → answer_word A i 0 ≡ 0 → is_repeat codes A i ≡ seen codes A (code codes i) (answer_word A i 1) i
   unfolding is_repeat
-  repeat_yes i h = rw (eq-eqb _ _ h)
+  is_repeat_yes i h = rw (eq-eqb _ _ h)
 
-  repeat_no : (i : ℕ) → (answer_word A i 0 ≡ 0 → ⊥) → is_repeat codes A i ≡ false
+  is_repeat_no : (i : ℕ) → (answer_word A i 0 ≡ 0 → ⊥) → is_repeat codes A i ≡ false
   unfolding is_repeat
-  repeat_no i h = rw (ne_eqb _ _ h)
+  is_repeat_no i h = rw (ne_eqb _ _ h)
 
   -- What is counted from call i on, of m.
   from : ℕ → ℕ → ℕ
@@ -96,8 +107,8 @@ module _ (codes A : List ℕ) where
   from_more : (i m : ℕ) → from i (suc m) ≡ cond (is_repeat codes A i) 1 0 + from (suc i) m
   unfolding from accepted repeats_after
   from_more i m = elim (ℕ_discrete (answer_word A i 0) 0) [
-    | yes h ↦ rw (with_yes i (accepted codes A (suc i) m) h, with_yes i (before i) h, repeat_yes i h, occurs_seen)
-    | no h ↦ rw (with_no i (accepted codes A (suc i) m) h, with_no i (before i) h, repeat_no i h, zero-add)
+    | yes h ↦ rw (with_yes i (accepted codes A (suc i) m) h, with_yes i (before i) h, is_repeat_yes i h, occurs_seen)
+    | no h ↦ rw (with_no i (accepted codes A (suc i) m) h, with_no i (before i) h, is_repeat_no i h, zero-add)
   ]
 
   counted_from : (m i : ℕ) → from i m ≡ count_by (is_repeat codes A) (range_with_len i m)
@@ -115,3 +126,60 @@ module _ (codes A : List ℕ) where
   pub rest_start : (n : ℕ) → rest n 0 ≡ repeats codes A n
   unfolding from repeats
   rest_start n = rw sub-zero (sym (counted_from n 0))
+
+  -- The same as numbers: 1 where call i repeats an earlier one, else 0.
+  unfoldable pub repeat : ℕ → ℕ
+  repeat i = elim (eqb (answer_word A i 0) 0) [ true ↦ occurs (call (code codes i) (answer_word A i 1)) (before i) | false ↦ 0 ]
+
+  pub repeat_yes : (i : ℕ) → answer_word A i 0 ≡ 0 → repeat i ≡ occurs (call (code codes i) (answer_word A i 1)) (before i)
+  unfolding repeat
+  repeat_yes i h = rw (eq-eqb _ _ h, repeat)
+
+  pub repeat_no : (i : ℕ) → (answer_word A i 0 ≡ 0 → ⊥) → repeat i ≡ 0
+  unfolding repeat
+  repeat_no i h = rw (ne_eqb _ _ h, repeat)
+
+  pub repeat_most : (i : ℕ) → repeat i ≤ 1
+  repeat_most i = elim (ℕ_discrete (answer_word A i 0) 0) [
+    | yes h ↦ rw (repeat_yes i h) (occurs_most _ _)
+    | no h ↦ rw (repeat_no i h) (omega arith)
+  ]
+
+  -- a call against the one before the j-th
+
+  hit : (c row j : ℕ) → is_call codes A j c row ≡ true → occurs (call c row) (before (suc j)) ≡ 1
+  hit c row j e = elim (ℕ_discrete (answer_word A j 0) 0) [
+    | yes h ↦ rw (with_yes j (before j) h) (occurs_yes _ _ _ (sym (is_yes j c row h) ∙ e))
+    | no h ↦ absurd (never (sym e ∙ is_no j c row h))
+  ]
+
+  miss : (c row j : ℕ) → is_call codes A j c row ≡ false → occurs (call c row) (before (suc j)) ≡ occurs (call c row) (before j)
+  miss c row j e = elim (ℕ_discrete (answer_word A j 0) 0) [
+    | yes h ↦ rw (with_yes j (before j) h) (occurs_no _ _ _ (sym (is_yes j c row h) ∙ e))
+    | no h ↦ rw (with_no j (before j) h)
+  ]
+
+  pub hit_down : (c row j : ℕ) → 0 < j → is_call codes A (j - 1) c row ≡ true → occurs (call c row) (before j) ≡ 1
+  hit_down c row zero h e = absurd (let z : ⊥ = omega arith in z)
+  hit_down c row (suc j) h e = hit c row j (rw sub-one at e)
+
+  pub miss_down : (c row j : ℕ) → 0 < j → is_call codes A (j - 1) c row ≡ false → occurs (call c row) (before j) ≡ occurs (call c row) (before (j - 1))
+  miss_down c row zero h e = absurd (let z : ⊥ = omega arith in z)
+  miss_down c row (suc j) h e = rw sub-one (miss c row j (rw sub-one at e))
+
+  pub none_left : (c row j : ℕ) → j ≤ 0 → occurs (call c row) (before j) ≡ 0
+  unfolding occurs
+  none_left c row zero h = refl
+  none_left c row (suc j) h = absurd (let z : ⊥ = omega arith in z)
+
+  -- one call more
+
+  turn : (i m : ℕ) → repeats_after (before i) (accepted codes A i (suc m)) ≡ repeat i + repeats_after (before (suc i)) (accepted codes A (suc i) m)
+  unfolding accepted repeats_after
+  turn i m = elim (ℕ_discrete (answer_word A i 0) 0) [
+    | yes h ↦ rw (with_yes i (accepted codes A (suc i) m) h, with_yes i (before i) h, repeat_yes i h)
+    | no h ↦ rw (with_no i (accepted codes A (suc i) m) h, with_no i (before i) h, repeat_no i h, zero-add)
+  ]
+
+  pub rest_end : (n i : ℕ) → n ≤ i → rest n i ≡ 0
+  rest_end n i h = let e : n - i ≡ 0 = omega arith in rw e
