@@ -11,7 +11,7 @@ with the facts on the way to it, in the order of the code. The other goals are l
 copy of the crates where the cycles' functions have no tactic: the first the goals, the second, with a hole at each, the facts.
 
 By hand is what neither says, in proving/answers.py: the names to unfold that no contract names, the operators of tests that are not named
-after them, the number that a `match` is on, the laws of a loop. The laws themselves stand in the crate's proofs/At.antt.
+after them, what a law says of a call, the laws of a loop. The laws themselves stand in the crate's proofs/At.antt.
 
 The two checks of `producer` take two minutes where the crates below are proved. RT is the command to check with (default: rt)."""
 import argparse

@@ -65,7 +65,8 @@ def main():
         if new != old:
             bad.append(path)
             if not check:
-                with open(path, 'w', encoding='utf-8') as f:
+                os.makedirs(os.path.dirname(path), exist_ok=True)
+        with open(path, 'w', encoding='utf-8') as f:
                     f.write(new)
     for path in bad:
         print('%s %s' % ('not as tools/written.py writes it:' if check else 'written:', path))

@@ -49,12 +49,12 @@ fault() {
 
 fault 'no fault' '' '' ''
 fault "a lam's annotation is quoted" ast/src/cells.rt \
-    '        kinds::LAM => true,' '        kinds::LAM => false,'
+    '        Kind::Lam => true,' '        Kind::Lam => false,'
 fault 'two premises are cited the wrong way round' producer/src/typing.rt \
     '                    cite([x, y]),' '                    cite([y, x]),'
 fault '20 while there is space' run/src/entry.rt \
     '    let cellroom = cap(cells / 8, 4294967295);' '    let cellroom = cap(cells / 9, 4294967295);'
 fault 'a refused conversion is not ended' producer/src/answers.rt \
-    '            Err(left.refused(refused.number))' '            Err(refused)'
+    '            Err(left.refused(refused.refusal))' '            Err(refused)'
 [ "$failed" -eq 0 ] && echo "every fault is caught"
 exit "$failed"

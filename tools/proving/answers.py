@@ -16,7 +16,7 @@ UNFOLD = {
     'path': 'path_ends up',
     'plam': 'plam_ends up',
     'under': 'up',
-    'build': 'up',
+    'build': 'up follows_number',
     'under_subst': 'up',
     'pair': 'pair_typed',
     'line': 'at_ends as_path',
@@ -30,19 +30,21 @@ OTHERS = {'up': 'Rattle.ast.specs.Words'}
 SHUT = ('callees', 'rounds', 'built', 'scoped')
 
 # The operators of tests that aren't named after them, as if-left-eq0 and if-s1-lt32 are. Any other test is of a Bool.
-TESTS = {'if-n-m': '>=', 'if-n-m-2': '>', 'if-s1-ge32': '>=', 'if-i-j': '!=', 'if-read-kind': '=='}
+TESTS = {'if-n-m': '>=', 'if-n-m-2': '>', 'if-s1-ge32': '>=', 'if-i-j': '!=', 'if-read-number': '=='}
 
 # What makes a test's fact an equation of Bools, by the operator: where it is true, and where it is false.
 # A test with its sides exchanged is one of `<` or `<=` that fails.
 EQUATIONS = {'==': ('eq-eqb', 'ne_eqb'), '!=': ('ne_eqb', 'eq-eqb'), '<': ('lt-ltb', 'le-ltb'), '<=': ('le-leb', 'lt-leb'),
              '>=': ('le-ltb', 'lt-ltb'), '>': ('lt-leb', 'le-leb')}
 
-# The number that a function's `match` is on, where it isn't KIND.
-NUMBER = {'compound': 'args.cell.kind', 'line': 'read.result.kind', 'build': 'parts.result'}
-KIND = 'read-cell.result.kind'
-
 # Laws to rewrite by before a call, by its name or that of its step.
 BEFORE = {'ended': 'law.ended_end _ _ _', 'max-top': 'law.greater_is _ _', 'max-2': 'law.greater_is _ _'}
+
+# What is said of a call's result by a law, where the goal has not the result: of a node that is made.
+LAWS = {'new': 'law.node', 'of_words': 'law.node'}
+
+# Calls before which the node made last is told of a second time: its kind's rule stands in the goal too.
+RULED = {'tmake': 'law.node_rule _'}
 
 # Calls whose contract says what the result is, where the goal has the result.
 DIRECT = ('refused',)

@@ -1,7 +1,7 @@
 """The answers: one rewriting with the facts on the way to a goal, in the order of the code."""
 import re
 
-from .answers import BEFORE, DIRECT, EQUATIONS, KIND, LOOPS, NUMBER, TESTS
+from .answers import BEFORE, DIRECT, EQUATIONS, LAWS, LOOPS, RULED, TESTS
 from .source import enters
 
 CHUNK = 6  # entries in one rewriting: a longer one is nested
@@ -16,10 +16,8 @@ def answers(crate, cycle, goals, facts):
         function = cycle.functions[name]
         unfolds = crate.unfolds(name, function)
         unfolded.update(unfolds)
-        # the numbers that the function's `match` has an arm for
-        arms = sorted({int(step[len('in-'):]) for goal in own for step in facts[goal] if re.match(r'in-\d+$', step)})
         for goal in own:
-            text = nested(entries(name, function, facts[goal], arms))
+            text = nested(entries(name, function, facts[goal]))
             if goal.endswith('-preserved'):
                 text = '(omega arith, %s)' % text
             unfolding = 'unfolding %s\n' % ' '.join(unfolds) if unfolds else ''
@@ -34,11 +32,9 @@ def function_of(cycle, goal):
     return max((name for name in cycle.functions if goal.startswith(name + '-')), key=len)
 
 
-def entries(name, function, steps, arms):
+def entries(name, function, steps):
     "the entries of a rewriting"
-    out, number = [], NUMBER.get(name, KIND)
-    # That a number has none of the arms is no step, but a field of the start.
-    others = arms if any(field.startswith('in_default') for field in steps['']) else []
+    out, read_as = [], None
     for step, fields in steps.items():
         at, kind = 'c.' + step, step.split('-')[0]
         if kind == 'if' or step.endswith('-test'):
@@ -51,18 +47,32 @@ def entries(name, function, steps, arms):
             refused = at
         elif kind == 'from_residual':
             out += ['law.residual _ _ %s.ensures.1' % at, '← %s.ensures' % refused]
+        elif kind == 'of':
+            read_as = at  # the arm says which kind it is
+        elif kind in ('in', 'in_default') and read_as:
+            out += of_kind(at, fields, read_as)
+            read_as = None
         elif kind in ('in', 'in_default'):
-            out.append(at + '.is' if 'is' in fields else unlike(at, fields))
+            out += [at + '.is'] + [at + '.field-0-is' for field in fields if field == 'field-0-is'] if 'is' in fields else [unlike(at, fields)]
         elif kind == 'loop':
             out.append(at + '.invariant.1')
         elif kind in DIRECT:
             out.append(at + '.ensures')
+        elif kind in LAWS:
+            made = at
+            out.append('%s %s.ensures' % (LAWS[kind], at))
         elif 'ensures' in fields:
             out += [BEFORE[name] for name in dict.fromkeys((kind, step)) if name in BEFORE]
+            out += ['%s %s.ensures' % (RULED[kind], made)] if kind in RULED else []
             out.append('← %s.ensures' % at)
-        if number.startswith(step + '.'):
-            out += ['ne_eqb _ _ (let n : c.%s ≡ %d → ⊥ = omega arith in n)' % (number, arm) for arm in others]
     return out
+
+
+def of_kind(at, fields, read_as):
+    "the entries for an arm of a `match` on the kind with a number"
+    if 'is' in fields:
+        return ['law.kind_is _ %s.ensures %s.is' % (read_as, at)]
+    return ['law.kind_isnt _ %s.ensures %s.%s refl' % (read_as, at, field) for field in fields if field.startswith('not-')]
 
 
 def unlike(at, fields):
@@ -91,7 +101,7 @@ def nested(entries):
 
 def uses(crate, cycle, body, unfolded):
     "the `use` lines that the text and the names to unfold ask for"
-    common = [name for name in ('◌≡◌', 'arith') if name.strip('◌') in body]
+    common = [name for name in ('◌≡◌', 'arith', 'refl') if re.search(r'%s' % name.strip('◌'), body)]
     tests = sorted({lemma for lemmas in EQUATIONS.values() for lemma in lemmas if lemma + ' ' in body})
     modules = {}
     for name, module in unfolded.items():

@@ -64,6 +64,15 @@ def refusals():
 
 # ---- kinds
 
+# The source has names of its own for the parts of these.
+SOURCE = {'dshiftctx': 'DShiftCtx', 'ishift': 'IShift', 'isubst': 'ISubst', 'dshift': 'DShift', 'dsubst': 'DSubst'}
+
+
+def camel(name):
+    """The name of a variant of the program's: `type.app` is `TypeApp`."""
+    return ''.join(SOURCE.get(part, part[0].upper() + part[1:]) for part in re.split('[-._]', name))
+
+
 def vars_of(kind):
     """The parts as variables: a, b, c by their places, and n for a number."""
     return ['n' if p.sort == 'number' else 'abc'[i] for i, p in enumerate(kind.parts)]

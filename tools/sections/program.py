@@ -1,60 +1,174 @@
-"""The program: its constants, which are kinds of cells and refusals (crates/ast), judgments and rules (crates/producer); and what it asks
+"""The program: kinds of cells and refusals (crates/ast), judgments and rules (crates/producer), with their numbers; and what it asks
 of a kind, as a match on it, since a constant table would be made anew on the stack at each read."""
-import re
-
-from .common import (ALL, CONTEXTS, INFERENCE, INTERVALS, JUDGMENTS, NOTE, RULED, RULES, TERMS, TRANSFORMS, antt_name, applied, is_number, refusals, section,
-                     whole)
-
-
-def constants(pairs):
-    return '\n\n'.join(f'pub const {name}: u32 = {value};' for name, value in pairs) + '\n'
+from .common import (ALL, CONTEXTS, INFERENCE, INTERVALS, JUDGMENTS, NOTE, RULED, RULES, TERMS, TRANSFORMS, antt_name, applied, camel, is_number, refusals,
+                     section, whole)
+from proving.rewriting import nested
 
 
-def constant(name):
-    return name.upper().replace('-', '_').replace('.', '_')
+# ---- Kinds and refusals (crates/ast): enums, and their numbers
 
-
-def kinds(ks):
-    return constants([(constant(k.word), k.byte) for k in ks])
+# Each group of kinds: what it is said to be, and each kind's name and number.
+KINDS = [
+    ('Terms: the codes of docs/FORMAT.md.', [(camel(k.word), k.byte) for k in TERMS]),
+    ('Intervals.', [(camel(k.word), k.byte) for k in INTERVALS]),
+    ('Contexts: the empty one, and one with a last type and a rest.', [(camel(k.word), k.byte) for k in CONTEXTS]),
+    ('A remembered inference.', [('Inference', INFERENCE)]),
+]
+EVERY_KIND = [pair for _, group in KINDS for pair in group]
 
 
 @whole('crates/ast/src/kinds.rt')
 def _():
+    variants = ''.join('    // %s\n%s' % (says, ''.join('    %s,\n' % name for name, _ in group)) for says, group in KINDS)
+    arms = ''.join('            %d => Kind::%s,\n' % (number, name) for name, number in EVERY_KIND)
+    back = ''.join('            Kind::%s => %d,\n' % pair for pair in EVERY_KIND)
     return f'''// The kinds of cells.
 // {NOTE}
+ghost use Rattle.std.specs.Prelude.{{◌≡◌}};
+ghost use Rattle.ast.specs.Kinds.{{kind_number, kind_of}};
 
-// Terms: the codes of docs/FORMAT.md.
-{kinds(TERMS)}
-// Intervals.
-{kinds(INTERVALS)}
-// Contexts: the empty one, and one with a last type and a rest.
-{kinds(CONTEXTS)}
-// A remembered inference.
-{constants([('INFERENCE', INFERENCE)])}'''
+// What a cell is.
+#[derive(Clone, Copy, Debug, PartialEq, Eq)]
+pub enum Kind {{
+{variants}    // Any other number, which a word may be that was lent.
+    Other(u32),
+}}
+
+impl Kind {{
+    // The kind with the number.
+    #[tactic(auto, unfolding(crate::specs::Kinds::kind_of, crate::specs::Kinds::kind_in, crate::specs::Kinds::kind_number))]
+    pub fn of(number: u32) -> Kind
+        ensures {{ result ≡ kind_of number }}
+    {{
+        match number {{
+{arms}            _ => Kind::Other(number),
+        }}
+    }}
+
+    // Its number, as a cell has it.
+    #[tactic(auto, unfolding(crate::specs::Kinds::kind_number))]
+    pub fn number(self) -> u32
+        ensures {{ result ≡ kind_number self }}
+    {{
+        match self {{
+{back}            Kind::Other(number) => number,
+        }}
+    }}
+}}
+'''
+
+
+@whole('crates/ast/specs/Kinds.antt')
+def _():
+    numbers = '\n'.join('kind_number kind.%s = %d' % pair for pair in EVERY_KIND)
+    every = ' ∷ '.join('kind.%s' % name for name, _ in EVERY_KIND)
+    return f'''-- The kinds of cells and their numbers: a cell's first word. Assumes nothing.
+-- {NOTE}
+use Rattle.std.specs.Prelude.{{ℕ, List, [], ◌∷◌, ◌==◌}}
+use Rattle.ast.specs.Words.{{ifb}}
+use Rattle.ast.specs.declared.kinds.Kind.{{Kind}}
+use Rattle.ast.specs.declared.kinds.Kind.TheVariants as kind
+
+unfoldable pub kind_number : Kind → ℕ
+{numbers}
+kind_number (kind.Other n) = n
+
+-- every kind that there is
+abbrev pub every_kind : List Kind
+every_kind = {every} ∷ []
+
+-- the first of these with the number
+unfoldable pub kind_in : List Kind → ℕ → Kind
+kind_in [] n = kind.Other n
+kind_in (k ∷ ks) n = ifb (n == kind_number k) k (kind_in ks n)
+
+-- the kind with the number
+unfoldable pub kind_of : ℕ → Kind
+kind_of n = kind_in every_kind n
+'''
+
+
+@section('crates/ast/proofs/Numbered.antt', 'kinds')
+def _():
+    named = ['named kind.%s = true' % name for name, _ in EVERY_KIND] + ['named (kind.Other n) = false']
+    head = ['of_number : (k : Kind) → named k ≡ true → kind_of (kind_number k) ≡ k', 'unfolding kind_of kind_in kind_number']
+    laws = ['of_number kind.%s h = refl' % name for name, _ in EVERY_KIND] + ['of_number (kind.Other n) h = absurd (true≢false (sym h))']
+    return ['abbrev pub named : Kind → Bool'] + named + [''] + head + laws
+
+
+# What the laws of a kind with a number need unfolded.
+NUMBERED = ('kind_number', 'Rattle.ast.specs.Kinds')
+
+
+def kind_answers(function, unfolded, start, arms, called=None):
+    """The answers of a function that is a match on the kind with a number: the crate and the place of it; the names to unfold, each with its
+    module; what to rewrite by first; the kinds that have an arm; the function that each arm calls."""
+    crate = function.split('/')[0]
+    module = 'Rattle.%s.proofs.%s' % (crate, '.'.join(function.split('/')[1:]))
+
+    @whole('crates/%s/proofs/%s/Answers.antt' % (crate, '/'.join(function.split('/')[1:])))
+    def _():
+        names = ' '.join(name for name, _ in unfolded)
+        out = ['-- ' + NOTE, 'use Rattle.std.proofs.Common.{◌≡◌, refl}']
+        out += ['use %s.{%s}' % (m, ', '.join(n for n, where in unfolded if where == m)) for m in dict.fromkeys(m for _, m in unfolded)]
+        out += ['use Rattle.ast.proofs.Numbered as law', 'use %s.Goals as goal' % module]
+        unlike = ['law.kind_isnt _ c.of.ensures c.in_default.not-%s refl' % camel(k.word) for k in arms]
+        calls = [['← c.%s%s.ensures' % (called, '-in-' + camel(k.word) if n else '')] if called else [] for n, k in enumerate(arms)]
+        goals = [('in-' + camel(k.word), ['law.kind_is _ c.of.ensures c.in-%s.is' % camel(k.word)] + call) for k, call in zip(arms, calls)]
+        goals += [('in_default', unlike)]
+        for goal, facts in goals:
+            out += ['', 'pub returns-%s : goal.returns-%s' % (goal, goal), 'unfolding ' + names]
+            out += ['returns-%s c = %s' % (goal, nested(start + facts))]
+        return '\n'.join(out) + '\n'
+
+
+# Each group of refusals: each one's name, number, and what it says.
+REFUSED = [[(camel(name), number, because) for number, name, because in group] for _, group in refusals()]
 
 
 @whole('crates/ast/src/refusals.rt')
 def _():
-    groups = ['\n'.join('// %s.\npub const %s: u32 = %d;' % (because[0].upper() + because[1:], constant(name), number)
-                        for number, name, because in group) for _, group in refusals()]
-    return '''// The refusals by number: of a whole run, of a call before it is walked, of a call where the walk stops.
-// %s
+    groups = '\n'.join('\n'.join('    // %s.\n    %s = %d,' % (because[0].upper() + because[1:], name, number) for name, number, because in group)
+                       for group in REFUSED)
+    return f'''// The refusals: of a whole run, of a call before it is walked, of a call where the walk stops.
+// {NOTE}
+ghost use Rattle.std.specs.Prelude.{{◌≡◌}};
+ghost use Rattle.ast.specs.Refusals.{{refusal_number}};
 
-%s
-''' % (NOTE, '\n\n'.join(groups))
+#[derive(Clone, Copy, Debug, PartialEq, Eq)]
+pub enum Refusal {{
+{groups}
+}}
+
+impl Refusal {{
+    // Its number, as an answer has it.
+    #[tactic(auto, unfolding(crate::specs::Refusals::refusal_number))]
+    pub fn number(self) -> u32
+        ensures {{ result ≡ refusal_number self }}
+    {{
+        self as u32
+    }}
+}}
+'''
+
+
+@whole('crates/ast/specs/Refusals.antt')
+def _():
+    numbers = '\n'.join('refusal_number refusal.%s = %d' % (name, number) for group in REFUSED for name, number, _ in group)
+    return f'''-- The program's refusals by their numbers. Assumes nothing.
+-- {NOTE}
+use Rattle.std.specs.Prelude.{{ℕ}}
+use Rattle.ast.specs.declared.refusals.Refusal.{{Refusal}}
+use Rattle.ast.specs.declared.refusals.Refusal.TheVariants as refusal
+
+unfoldable pub refusal_number : Refusal → ℕ
+{numbers}
+'''
 
 
 # ---- Rules and judgments (crates/producer): enums, their numbers, and what a row has of them
 
 PLACES = 'abcde'
-
-
-# The source has names of its own for the parts of these.
-SOURCE = {'dshiftctx': 'DShiftCtx', 'ishift': 'IShift', 'isubst': 'ISubst', 'dshift': 'DShift', 'dsubst': 'DSubst'}
-
-
-def camel(name):
-    return ''.join(SOURCE.get(part, part[0].upper() + part[1:]) for part in re.split('[-._]', name))
 
 
 def arguments(judgment):
@@ -70,7 +184,8 @@ def words(judgment, separator, gives):
 
 @whole('crates/producer/src/codes.rt')
 def _():
-    rules = ''.join('    %s = %d,\n' % (camel(r.name), r.number) for r in RULES)
+    rules = ''.join('    %s,\n' % camel(r.name) for r in RULES)
+    numbers = ''.join('            Rule::%s => %d,\n' % (camel(r.name), r.number) for r in RULES)
     judgments = ''.join('    // %s.\n    %s(%s),\n' % (j.meaning, camel(j.name), ', '.join(['u32'] * len(j.parts))) for j in JUDGMENTS)
     arms = ''
     for j in JUDGMENTS:
@@ -84,7 +199,9 @@ ghost use Rattle.producer.specs.Judgments.{{rule_number, words_of}};
 // The rule of a row.
 #[derive(Clone, Copy)]
 pub enum Rule {{
-{rules}}}
+{rules}    // Any other number.
+    Other(u32),
+}}
 
 impl Rule {{
     // Its number, as a row has it.
@@ -92,7 +209,9 @@ impl Rule {{
     pub fn number(self) -> u32
         ensures {{ result ≡ rule_number self }}
     {{
-        self as u32
+        match self {{
+{numbers}            Rule::Other(number) => number,
+        }}
     }}
 }}
 
@@ -100,9 +219,6 @@ impl Rule {{
 #[derive(Clone, Copy)]
 pub enum Judgment {{
 {judgments}}}
-
-// The kind of `Judgment::Ctx`, which `ctx` looks for before anything else.
-pub const IS_CTX: u32 = {next(j.number for j in JUDGMENTS if j.name == 'ctx')};
 
 // A judgment as a row has it: its kind, how many arguments it has, and these; 0 past the last.
 #[derive(Clone, Copy)]
@@ -134,18 +250,20 @@ def _():
     judgments = '\n'.join('words_of %s = record { %s }' % (applied('judgment.' + camel(j.name), arguments(j)), words(j, '; ', ' = ')) for j in JUDGMENTS)
     return f'''-- The program's rules by their numbers, its judgments by the words of a row, and the step that adds one. Assumes nothing.
 -- {NOTE}
-use Rattle.std.specs.Prelude.{{ℕ}}
+use Rattle.std.specs.Prelude.{{ℕ, List}}
 use Rattle.walk.specs.Rule as R
+use Rattle.ast.specs.Cells.{{Found}}
 use Rattle.producer.specs.declared.codes.Rule.{{Rule}}
 use Rattle.producer.specs.declared.codes.Rule.TheVariants as rule
 use Rattle.producer.specs.declared.codes.Judgment.{{Judgment}}
 use Rattle.producer.specs.declared.codes.Judgment.TheVariants as judgment
 use Rattle.producer.specs.declared.codes.Words.{{Words}}
 use Rattle.producer.specs.declared.rows.Refs.{{Refs}}
-use Rattle.producer.specs.Machine.{{W, emit}}
+use Rattle.producer.specs.Machine.{{W, emit, find_row}}
 
 unfoldable pub rule_number : Rule → ℕ
 {rules}
+rule_number (rule.Other n) = n
 
 unfoldable pub words_of : Judgment → Words
 {judgments}
@@ -155,6 +273,13 @@ emit_words n l w = emit n l w.kind w.count w.a w.b w.c w.d w.e
 
 unfoldable pub emit_as : ℕ → Refs → Judgment → W ℕ
 emit_as n l j = emit_words n l (words_of j)
+
+unfoldable pub known_words : List ℕ → ℕ → Words → Found
+known_words R n w = find_row R n w.kind w.a w.b w.c w.d w.e
+
+-- the last row below n that states a judgment
+unfoldable pub known_as : List ℕ → ℕ → Judgment → Found
+known_as R n j = known_words R n (words_of j)
 '''
 
 
@@ -165,9 +290,14 @@ def _():
     out = []
     for k in RULED:
         items = ['op'] + ['Rule::' + camel('%s.%s' % (t, k.tag)) for t in TRANSFORMS]
-        line = 'kinds::%s => by_op(%s),' % (constant(k.word), ', '.join(items))
-        out += [line] if len(', '.join(items)) <= 60 else ['kinds::%s => by_op(' % constant(k.word)] + ['    %s,' % item for item in items] + ['),']
+        arm = 'Kind::%s => by_op(' % camel(k.word)
+        line = ', '.join(items)
+        out += [arm + line + '),'] if len(line) <= 60 else [arm] + ['    %s,' % item for item in items] + ['),']
     return out
+
+
+kind_answers('producer/transforms/rule_of',
+             [('rule_of', 'Rattle.producer.specs.Transforms'), ('rule_number', 'Rattle.producer.specs.Judgments'), NUMBERED], [], RULED, 'by_op')
 
 
 @section('crates/producer/specs/Transforms.antt', 'rules of a kind')
@@ -201,9 +331,13 @@ def _():
     for name, says, kinds in SHOWS:
         out += ['// ' + says, '#[tactic(auto, unfolding(crate::specs::Cells::%s))]' % name, 'pub fn %s(kind: u32) -> bool' % name]
         out += ['    ensures { result ≡ %s kind }' % name]
-        out += ['{', '    match kind {']
-        out += ['        kinds::%s => true,' % k.word.upper() for k in kinds] + ['        _ => false,', '    }', '}', '']
+        out += ['{', '    match Kind::of(kind) {']
+        out += ['        Kind::%s => true,' % camel(k.word) for k in kinds] + ['        _ => false,', '    }', '}', '']
     return out[:-1]
+
+
+for name, _, kinds_ in SHOWS:
+    kind_answers('ast/cells/' + name, [(name, 'Rattle.ast.specs.Cells'), NUMBERED], [], kinds_)
 
 
 def tests(pairs, other, test='eqb k %d'):
@@ -220,14 +354,20 @@ def _():
     return out[:-1]
 
 
+# What follows a kind's byte, with its number.
 FOLLOWS = [(k, 2 if is_number(k) else [1, 3, 4, 5][len(k.parts)]) for k in TERMS + INTERVALS]
+FOLLOW = {1: 'Nothing', 2: 'Number', 3: 'One', 4: 'Two', 5: 'Three'}
 
 
 @section('crates/run/src/build.rt', 'what follows a kind')
 def _():
-    return ['kinds::%s => %d,' % (k.word.upper(), n) for k, n in FOLLOWS]
+    return ['Kind::%s => Some(Follows::%s),' % (camel(k.word), FOLLOW[n]) for k, n in FOLLOWS]
 
 
 @section('crates/run/specs/Build.antt', 'what follows a kind')
 def _():
     return ['parts_of k = ' + tests(FOLLOWS, '0')]
+
+
+kind_answers('run/build/parts', [('parts_of', 'Rattle.run.specs.Build'), ('follows_number', 'Rattle.run.specs.Build'), NUMBERED], [],
+             [k for k, _ in FOLLOWS])

@@ -35,44 +35,83 @@ def _():
     return '\n\n'.join('abbrev pub %s : ℕ\n%s = %d' % (s, s, n) for s, n in counts).split('\n')
 
 
-def table(constant, kind, what):
-    """As rt fmt lays it out: on filled lines where each entry is short, else an entry a line."""
-    head = f'pub static {constant}: [{kind}; {len(what)}] = [\n'
-    if max(map(len, what)) > 10:
-        return head + ''.join(f'    {entry},\n' for entry in what) + '];\n'
-    return head + textwrap.fill(', '.join(what) + ',', 99, initial_indent='    ', subsequent_indent='    ') + '\n];\n'
+HEAD = f'''// The tables of rules, judgments and nodes. The functions of lib.rt read them, and their proofs compare each with its rule.
+// {NOTE}
+use crate::Sort::{{Context, Interval, Number, Term}};
+use crate::{{Part, Sort}};
+
+// A rule: its name, and the kind of judgment that it concludes.
+#[derive(Clone, Copy)]
+pub struct Rule {{
+    pub name: &'static [u8],
+    pub kind: u32,
+}}
+
+// A judgment: its name, and the sorts of its arguments.
+#[derive(Clone, Copy)]
+pub struct Judgment {{
+    pub name: &'static [u8],
+    pub sorts: &'static [Sort],
+}}
+
+// A node: its name, and the parts that its quote shows.
+#[derive(Clone, Copy)]
+pub struct Node {{
+    pub name: &'static [u8],
+    pub parts: &'static [Part],
+}}
+'''
 
 
-def names(constant, what):
-    return table(constant, '&[u8]', [f'b"{name}"' for name in what])
+def made(struct, **fields):
+    """A value of a struct, as rt fmt lays it out: a field a line."""
+    return struct + ' {\n' + ''.join(f'    {name}: {value},\n' for name, value in fields.items()) + '}'
 
 
-def sort(name):
-    return name.capitalize()
+def a_slice(entries):
+    return '&[%s]' % ', '.join(entries)
+
+
+def a_rule(name, kind):
+    return made('Rule', name=f'b"{name}"', kind=kind)
+
+
+def a_judgment(name, parts):
+    return made('Judgment', name=f'b"{name}"', sorts=a_slice(p.sort.capitalize() for p in parts))
+
+
+def a_node(name, parts):
+    return made('Node', name=f'b"{name}"', parts=a_slice('%s_%d' % (sort.upper(), word) for sort, word in shown(parts)))
+
+
+def shown(parts):
+    """The parts that a quote shows: the sort of each, and the word where it stands."""
+    return [(p.sort, n + 1) for n, p in enumerate(parts) if p.shown]
+
+
+def constant(name, struct, value):
+    return f'const {name}: {struct} = {value};\n'
+
+
+def table(name, struct, entries):
+    return f'pub static {name}: [{struct}; {len(entries)}] = [\n' + textwrap.indent(''.join(e + ',\n' for e in entries), '    ') + '];\n'
 
 
 @whole('crates/rules/src/tables.rt')
 def _():
-    by_byte = {k.byte: k for k in ALL}
-    nodes = [by_byte.get(b) for b in range(ALL[-1].byte + 1)]
     kind = {j.name: j.number for j in JUDGMENTS}
-    sorts = ['&[%s]' % ', '.join(sort(p.sort) for p in j.parts) for j in JUDGMENTS]
-    shown = [[(sort(p.sort), n + 1) for n, p in enumerate(k.parts) if p.shown] if k else [] for k in nodes]
-    parts = ['&[%s]' % ', '.join('%s_%d' % (s.upper(), w) for s, w in ps) for ps in shown]
-    each = sorted({p for ps in shown for p in ps}, key=lambda p: (SORTS.index(p[0].lower()), p[1]))
-    consts = ''.join(f'const {s.upper()}_{w}: Part = Part {{\n    sort: {s},\n    word: {w},\n}};\n\n' for s, w in each)
+    nodes = {k.byte: a_node(k.name, k.parts) for k in ALL}
+    parts = sorted({p for k in ALL for p in shown(k.parts)}, key=lambda p: (SORTS.index(p[0]), p[1]))
     return '\n'.join([
-        f'''// The tables of names, kinds and sorts. The functions of lib.rt read them, and their proofs compare each with its rule.
-// {NOTE}
-use crate::Sort::{{Context, Interval, Number, Term}};
-use crate::{{Part, Sort}};
-''',
-        names('RULE_NAMES', [r.name for r in RULES]),
-        '// The kind of judgment that each rule concludes.\n' + table('RULE_KINDS', 'u32', [str(kind[r.judgment]) for r in RULES]),
-        names('JUDGMENT_NAMES', [j.name for j in JUDGMENTS]),
-        '// The sorts of the arguments of each kind.\n' + table('JUDGMENT_SORTS', '&[Sort]', sorts),
-        names('NODE_NAMES', [k.name if k else '' for k in nodes]),
-        '// Parts by their sort and the word of the cell that holds them.\n' + consts + '// The parts that the quote of each kind shows.\n' + table('NODE_PARTS', '&[Part]', parts),
+        HEAD,
+        '// What is read past the end of each table.\npub ' + constant('NO_RULE', 'Rule', a_rule('', 255)),
+        'pub ' + constant('NO_JUDGMENT', 'Judgment', a_judgment('', [])),
+        'pub ' + constant('NO_NODE', 'Node', a_node('', [])),
+        '// The rules by their number.\n' + table('RULES', 'Rule', [a_rule(r.name, kind[r.judgment]) for r in RULES]),
+        '// The judgments by their kind.\n' + table('JUDGMENTS', 'Judgment', [a_judgment(j.name, j.parts) for j in JUDGMENTS]),
+        '// Parts by their sort and the word of the cell that holds them.\n' +
+        '\n'.join(constant('%s_%d' % (sort.upper(), word), 'Part', made('Part', sort=sort.capitalize(), word=word)) for sort, word in parts),
+        '// The nodes by their kind.\n' + table('NODES', 'Node', [nodes.get(byte, 'NO_NODE') for byte in range(ALL[-1].byte + 1)]),
     ])
 
 

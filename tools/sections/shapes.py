@@ -1,7 +1,8 @@
 """The kinds that the walk takes apart (`taken` in tools/language.py), in the program and its proofs: the enum `Shape` (crates/ast), what
 goes on from each shape and the laws of it (crates/producer), and that this matches the walk (crates/link)."""
-from .common import NODE_TYPES, TAKEN, TERMS, applied, cells, is_number, one_taken, parts_of, section, variant, vars_of
+from .common import NODE_TYPES, TAKEN, TERMS, applied, camel, cells, is_number, one_taken, parts_of, section, variant, vars_of
 from .link import shape
+from .program import NUMBERED, kind_answers
 
 CODE, CELLS, MACHINE = 'crates/ast/src/cells.rt', 'crates/ast/specs/Cells.antt', 'crates/producer/specs/Machine.antt'
 AT, STEPS, OPEN = 'crates/producer/proofs/At.antt', 'crates/producer/proofs/Steps.antt', 'crates/link/specs/Open.antt'
@@ -24,8 +25,11 @@ def _():
     out = []
     for k in TAKEN:
         words = ', '.join('cell.' + w for w in 'abc'[:len(k.parts)])
-        out.append('kinds::%s => Shape::%s(%s),' % (k.word.upper(), variant(k), words))
+        out.append('Kind::%s => Shape::%s(%s),' % (camel(k.word), variant(k), words))
     return out
+
+
+kind_answers('ast/cells/shape_of', [('shape_of', 'Rattle.ast.specs.Cells'), NUMBERED], ['← c.read-cell.ensures'], TAKEN)
 
 
 @section(CELLS, 'taken apart')

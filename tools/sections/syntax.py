@@ -172,7 +172,7 @@ def _():
 ghost use Rattle.std.specs.Prelude.{{◌≡◌, get_or}};
 ghost use Rattle.std.proofs.Math.Option.{{none}};
 ghost use Rattle.walk.specs.Reader.{{codes, terms_of}};
-ghost use Rattle.syntax.specs.Told.{{code_of, code_in}};
+ghost use Rattle.syntax.specs.Told.{{code_number, code_of, code_in}};
 
 #[derive(Clone, Copy, Debug, PartialEq, Eq)]
 pub enum Code {{
@@ -189,6 +189,14 @@ impl Code {{
 {of}
             _ => None,
         }}
+    }}
+
+    // The byte that it is.
+    #[tactic(auto, unfolding(crate::specs::Told::code_of))]
+    pub fn number(self) -> u8
+        ensures {{ result ≡ code_number (code_of self) }}
+    {{
+        self as u8
     }}
 
     // How many terms follow the context of a call with this code.

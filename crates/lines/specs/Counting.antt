@@ -100,33 +100,6 @@ module _ (codes A : List ℕ) where
   unfolding is_repeat
   is_repeat_no i h = rw (ne_eqb _ _ h)
 
-  -- What is counted from call i on, of m.
-  from : ℕ → ℕ → ℕ
-  from i m = repeats_after (before i) (accepted codes A i m)
-
-  from_more : (i m : ℕ) → from i (suc m) ≡ cond (is_repeat codes A i) 1 0 + from (suc i) m
-  unfolding from accepted repeats_after
-  from_more i m = elim (ℕ_discrete (answer_word A i 0) 0) [
-    | yes h ↦ rw (with_yes i (accepted codes A (suc i) m) h, with_yes i (before i) h, is_repeat_yes i h, occurs_seen)
-    | no h ↦ rw (with_no i (accepted codes A (suc i) m) h, with_no i (before i) h, is_repeat_no i h, zero-add)
-  ]
-
-  counted_from : (m i : ℕ) → from i m ≡ count_by (is_repeat codes A) (range_with_len i m)
-  unfolding from accepted repeats_after
-  counted_from zero i = refl
-  counted_from (suc m) i = let g : i + 1 ≡ suc i = omega arith in from_more i m ∙ rw (g, counted_from m (suc i)) (sym (sum_by-cons _ i (range_with_len (suc i) m)))
-
-  -- How many of n calls repeat an earlier one, from call i on.
-  abbrev pub rest : ℕ → ℕ → ℕ
-  rest n i = count_by (is_repeat codes A) (range_with_len i (n - i))
-
-  pub rest_turn : (n i : ℕ) → i < n → rest n i ≡ cond (is_repeat codes A i) 1 0 + rest n (i + 1)
-  rest_turn n i h = let e : n - i ≡ suc (n - (i + 1)) = omega arith in rw e (sum_by-cons _ i (range_with_len (i + 1) (n - (i + 1))))
-
-  pub rest_start : (n : ℕ) → rest n 0 ≡ repeats codes A n
-  unfolding from repeats
-  rest_start n = rw sub-zero (sym (counted_from n 0))
-
   -- The same as numbers: 1 where call i repeats an earlier one, else 0.
   unfoldable pub repeat : ℕ → ℕ
   repeat i = elim (eqb (answer_word A i 0) 0) [ true ↦ occurs (call (code codes i) (answer_word A i 1)) (before i) | false ↦ 0 ]
@@ -143,6 +116,12 @@ module _ (codes A : List ℕ) where
   repeat_most i = elim (ℕ_discrete (answer_word A i 0) 0) [
     | yes h ↦ rw (repeat_yes i h) (occurs_most _ _)
     | no h ↦ rw (repeat_no i h) (omega arith)
+  ]
+
+  repeat_as : (i : ℕ) → repeat i ≡ cond (is_repeat codes A i) 1 0
+  repeat_as i = elim (ℕ_discrete (answer_word A i 0) 0) [
+    | yes h ↦ rw (repeat_yes i h, is_repeat_yes i h) (occurs_seen _ _ i)
+    | no h ↦ rw (repeat_no i h, is_repeat_no i h)
   ]
 
   -- a call against the one before the j-th
@@ -181,5 +160,35 @@ module _ (codes A : List ℕ) where
     | no h ↦ rw (with_no i (accepted codes A (suc i) m) h, with_no i (before i) h, repeat_no i h, zero-add)
   ]
 
+  -- What is still to be counted from call i on, of n.
+  abbrev pub rest : ℕ → ℕ → ℕ
+  rest n i = repeats_after (before i) (accepted codes A i (n - i))
+
+  pub rest_turn : (n i : ℕ) → i < n → rest n i ≡ repeat i + rest n (i + 1)
+  rest_turn n i h = let e : n - i ≡ suc (n - (i + 1)) = omega arith in let g : i + 1 ≡ suc i = omega arith in rw (e, g) (turn i (n - suc i))
+
   pub rest_end : (n i : ℕ) → n ≤ i → rest n i ≡ 0
+  unfolding accepted repeats_after
   rest_end n i h = let e : n - i ≡ 0 = omega arith in rw e
+
+  pub rest_start : (n : ℕ) → rest n 0 ≡ repeats codes A n
+  unfolding repeats
+  rest_start n = rw sub-zero
+
+  -- The same as a count over the numbers of the calls, which the function makes.
+  abbrev pub counted : ℕ → ℕ → ℕ
+  counted n i = count_by (is_repeat codes A) (range_with_len i (n - i))
+
+  counted_from : (m i : ℕ) → repeats_after (before i) (accepted codes A i m) ≡ count_by (is_repeat codes A) (range_with_len i m)
+  unfolding accepted repeats_after
+  counted_from zero i = refl
+  counted_from (suc m) i = let g : i + 1 ≡ suc i = omega arith in turn i m ∙ rw (repeat_as i, g, counted_from m (suc i)) (sym (sum_by-cons _ i (range_with_len (suc i) m)))
+
+  pub rest_counted : (n i : ℕ) → rest n i ≡ counted n i
+  rest_counted n i = counted_from (n - i) i
+
+  pub counted_turn : (n i : ℕ) → i < n → counted n i ≡ cond (is_repeat codes A i) 1 0 + counted n (i + 1)
+  counted_turn n i h = let e : n - i ≡ suc (n - (i + 1)) = omega arith in rw e (sum_by-cons _ i (range_with_len (i + 1) (n - (i + 1))))
+
+  pub counted_start : (n : ℕ) → counted n 0 ≡ repeats codes A n
+  counted_start n = sym (rest_counted n 0) ∙ rest_start n

@@ -9,7 +9,7 @@ use Rattle.ast.specs.Cells.{Found, or_else, on_found, last_of, cell_of, quote_of
 use Rattle.ast.specs.Nodes.{look_hash}
 use Rattle.ast.specs.declared.cells.Cell.{Cell as Words}
 use Rattle.producer.specs.declared.rows.Refs.{Refs}
-use Rattle.producer.specs.Machine.{same_row}
+use Rattle.producer.specs.Machine.{cited, same_row}
 use Rattle.walk.specs.Syntax.{Interval, I0, I1, Dim, Neg, Meet, Join, Term, Universe, Var, Nat, Zero, Pi, Lam, App, Path, PathLam, PathApp, Sigma, Pair, Fst, Snd, Context, Nil, Cons}
 use Rattle.walk.specs.Judgment.{Judgment, judgment?}
 use Rattle.walk.specs.State.{Row, Thing, term, interval, context, inference, Key, key, Memory, thing?, row_of, among, recall, of_interval, of_term, of_context}
@@ -19,7 +19,7 @@ use Rattle.link.specs.Tables.{Shape, s_universe, s_var, s_nat, s_zero, s_pi, s_l
 
 -- the cited rows as a row has them: how many, and ten places
 abbrev pub refs_of : List ℕ → Refs
-refs_of l = record { count = length l; r0 = get_or l 0 0; r1 = get_or l 1 0; r2 = get_or l 2 0; r3 = get_or l 3 0; r4 = get_or l 4 0; r5 = get_or l 5 0; r6 = get_or l 6 0; r7 = get_or l 7 0; r8 = get_or l 8 0; r9 = get_or l 9 0 }
+refs_of l = record { count = length l; rows = get_or l 0 0 ∷ get_or l 1 0 ∷ get_or l 2 0 ∷ get_or l 3 0 ∷ get_or l 4 0 ∷ get_or l 5 0 ∷ get_or l 6 0 ∷ get_or l 7 0 ∷ get_or l 8 0 ∷ get_or l 9 0 ∷ [] }
 
 -- the words of a cell, over the cells below; its children in the index are any words
 pub data Block (xs : List Thing) : Thing → List ℕ → Type 0 where
@@ -28,7 +28,7 @@ pub data Block (xs : List Thing) : Thing → List ℕ → Type 0 where
 
 -- a row with its children in the index
 abbrev pub row_words : ℕ → Refs → (kind count a b c d e m n o p : ℕ) → List ℕ
-row_words rule l kind count a b c d e m n o p = rule ∷ l.count ∷ l.r0 ∷ l.r1 ∷ l.r2 ∷ l.r3 ∷ l.r4 ∷ l.r5 ∷ l.r6 ∷ l.r7 ∷ l.r8 ∷ l.r9 ∷ count ∷ a ∷ b ∷ c ∷ d ∷ e ∷ 0 ∷ kind ∷ m ∷ n ∷ o ∷ p ∷ []
+row_words rule l kind count a b c d e m n o p = rule ∷ l.count ∷ cited l 0 ∷ cited l 1 ∷ cited l 2 ∷ cited l 3 ∷ cited l 4 ∷ cited l 5 ∷ cited l 6 ∷ cited l 7 ∷ cited l 8 ∷ cited l 9 ∷ count ∷ a ∷ b ∷ c ∷ d ∷ e ∷ 0 ∷ kind ∷ m ∷ n ∷ o ∷ p ∷ []
 
 -- the words of a row
 pub data Line (xs : List Thing) (rs : List Row) : Row → List ℕ → Type 0 where

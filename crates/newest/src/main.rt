@@ -3,9 +3,9 @@
 #![tactic(auto)]
 
 use ast::cells::{Node, put_cell};
-use ast::kinds;
+use ast::kinds::Kind;
 use ast::words::{put, put_all};
-use producer::codes::{Judgment, Rule};
+use producer::codes::{Judgment, Rule, Words};
 use producer::rows::{cite, find_row, put_row, row_start};
 use search::index::index_rows;
 use search::plain::{Wanted, last_row};
@@ -15,40 +15,49 @@ use std::{fmt, io};
 const CELLS: u32 = 14;
 
 // A cell of a kind, whose other words say nothing: no lowest cell, no index.
-fn cell(cells: &mut [u32], n: u32, kind: u32, a: u32, b: u32) {
-    let node = Node { kind, a, b, c: 0 };
+fn cell(cells: &mut [u32], n: u32, kind: Kind, a: u32, b: u32) {
+    let node = Node::new(kind, a, b, 0);
     put_cell(cells, n, node, 9, 9, 9, 9);
 }
 
 // nil, nat, zero, u 0, v 0.
 fn atoms(cells: &mut [u32]) {
-    cell(cells, 0, kinds::NIL, 0, 0);
-    cell(cells, 1, kinds::NAT, 0, 0);
-    cell(cells, 2, kinds::ZERO, 0, 0);
-    cell(cells, 3, kinds::UNIVERSE, 0, 0);
-    cell(cells, 4, kinds::VAR, 0, 0);
+    cell(cells, 0, Kind::Nil, 0, 0);
+    cell(cells, 1, Kind::Nat, 0, 0);
+    cell(cells, 2, Kind::Zero, 0, 0);
+    cell(cells, 3, Kind::Universe, 0, 0);
+    cell(cells, 4, Kind::Var, 0, 0);
 }
 
 // 5 and 6 have one quote, lam (v 0), and differ in the annotation; so do 9 and 10, which are applied to zero. 7 and 8 are equal.
 fn terms(cells: &mut [u32]) {
-    cell(cells, 5, kinds::LAM, 1, 4);
-    cell(cells, 6, kinds::LAM, 3, 4);
-    cell(cells, 7, kinds::PI, 1, 1);
-    cell(cells, 8, kinds::PI, 1, 1);
-    cell(cells, 9, kinds::APP, 5, 2);
-    cell(cells, 10, kinds::APP, 6, 2);
+    cell(cells, 5, Kind::Lam, 1, 4);
+    cell(cells, 6, Kind::Lam, 3, 4);
+    cell(cells, 7, Kind::Pi, 1, 1);
+    cell(cells, 8, Kind::Pi, 1, 1);
+    cell(cells, 9, Kind::App, 5, 2);
+    cell(cells, 10, Kind::App, 6, 2);
 }
 
 // 11 and 12 are equal contexts; 13 is a part of itself, and has no quote.
 fn others(cells: &mut [u32]) {
-    cell(cells, 11, kinds::CONS, 1, 0);
-    cell(cells, 12, kinds::CONS, 1, 0);
-    cell(cells, 13, kinds::PI, 13, 13);
+    cell(cells, 11, Kind::Cons, 1, 0);
+    cell(cells, 12, Kind::Cons, 1, 0);
+    cell(cells, 13, Kind::Pi, 13, 13);
 }
 
 // A row by a rule. Its working words are wrong: no kind, and children that are not there or lead astray.
 fn row(rows: &mut [u32], n: u32, rule: Rule, a: u32, b: u32, c: u32, d: u32, e: u32) {
-    put_row(rows, n, rule.number(), cite([]), 99, 0, a, b, c, d, e);
+    let words = Words {
+        kind: 99,
+        count: 0,
+        a,
+        b,
+        c,
+        d,
+        e,
+    };
+    put_row(rows, n, rule.number(), cite([]), words);
     let at = row_start(n);
     put(rows, at + 18, 7);
     put_all(rows, at + 20, &[1, 2, 3, u32::MAX]);
@@ -59,8 +68,8 @@ fn pair(rows: &mut [u32], n: u32, rule: Rule, a: u32, b: u32) {
     row(rows, n, rule, a, b, 0, 0, 0);
 }
 
-fn wanted(judgment: Judgment) -> Wanted {
-    let words = judgment.words();
+// A judgment that is asked for of the plain search.
+fn wanted(words: Words) -> Wanted {
     Wanted {
         kind: words.kind,
         a: words.a,
@@ -91,18 +100,19 @@ fn ask(
     rows: &mut [u32],
     n: u32,
     cells: &[u32],
-    w: Wanted,
+    judgment: Judgment,
 ) -> io::Result<()> {
-    let plain = Found(last_row(rows, n, cells, CELLS, w));
+    let words = judgment.words();
+    let plain = Found(last_row(rows, n, cells, CELLS, wanted(words)));
     index_rows(rows, n);
-    let by_index = Found(find_row(rows, n, w.kind, w.a, w.b, w.c, w.d, w.e));
+    let by_index = Found(find_row(rows, n, words));
     println!(rt; "{name}: {plain} {by_index}")
 }
 
 // No row, and one.
 fn small(rt: &impl Print, cells: &[u32]) -> io::Result<()> {
     let mut rows = [0u32; 192];
-    ask(rt, "empty", &mut rows, 0, cells, wanted(Judgment::Lt(1, 2)))?;
+    ask(rt, "empty", &mut rows, 0, cells, Judgment::Lt(1, 2))?;
     pair(&mut rows, 0, Rule::LtZ, 1, 2);
     ask(
         rt,
@@ -110,16 +120,16 @@ fn small(rt: &impl Print, cells: &[u32]) -> io::Result<()> {
         &mut rows,
         0,
         cells,
-        wanted(Judgment::Lt(1, 2)),
+        Judgment::Lt(1, 2),
     )?;
-    ask(rt, "one", &mut rows, 1, cells, wanted(Judgment::Lt(1, 2)))?;
+    ask(rt, "one", &mut rows, 1, cells, Judgment::Lt(1, 2))?;
     ask(
         rt,
         "one, another asked",
         &mut rows,
         1,
         cells,
-        wanted(Judgment::Lt(2, 1)),
+        Judgment::Lt(2, 1),
     )?;
     pair(&mut rows, 0, Rule::CtxNil, 0, 0);
     ask(
@@ -128,7 +138,7 @@ fn small(rt: &impl Print, cells: &[u32]) -> io::Result<()> {
         &mut rows,
         1,
         cells,
-        wanted(Judgment::Ctx(0, 0)),
+        Judgment::Ctx(0, 0),
     )
 }
 
@@ -141,7 +151,7 @@ fn repeated(rt: &impl Print, cells: &[u32]) -> io::Result<()> {
     pair(&mut rows, 3, Rule::LtZ, 1, 2);
     pair(&mut rows, 4, Rule::LeZ, 1, 2);
     pair(&mut rows, 5, Rule::LtZ, 1, 2);
-    let typing = wanted(Judgment::Has(0, 0, 2, 1));
+    let typing = Judgment::Has(0, 0, 2, 1);
     ask(rt, "twice", &mut rows, 6, cells, typing)?;
     ask(
         rt,
@@ -151,21 +161,14 @@ fn repeated(rt: &impl Print, cells: &[u32]) -> io::Result<()> {
         cells,
         typing,
     )?;
-    ask(
-        rt,
-        "three times",
-        &mut rows,
-        6,
-        cells,
-        wanted(Judgment::Lt(1, 2)),
-    )?;
+    ask(rt, "three times", &mut rows, 6, cells, Judgment::Lt(1, 2))?;
     ask(
         rt,
         "three times, cut after the second",
         &mut rows,
         5,
         cells,
-        wanted(Judgment::Lt(1, 2)),
+        Judgment::Lt(1, 2),
     )?;
     ask(
         rt,
@@ -173,7 +176,7 @@ fn repeated(rt: &impl Print, cells: &[u32]) -> io::Result<()> {
         &mut rows,
         6,
         cells,
-        wanted(Judgment::Le(1, 2)),
+        Judgment::Le(1, 2),
     )
 }
 
@@ -188,9 +191,9 @@ fn neighbours(rt: &impl Print, cells: &[u32]) -> io::Result<()> {
     row(&mut rows, 5, Rule::EqRefl, 0, 0, 2, 2, 3);
     pair(&mut rows, 6, Rule::LtZ, 4, 5);
     pair(&mut rows, 7, Rule::LeZ, 4, 5);
-    let middle = wanted(Judgment::Eq(0, 0, 2, 2, 1));
+    let middle = Judgment::Eq(0, 0, 2, 2, 1);
     ask(rt, "neighbours in an argument", &mut rows, 8, cells, middle)?;
-    let other = wanted(Judgment::Eq(0, 0, 3, 2, 1));
+    let other = Judgment::Eq(0, 0, 3, 2, 1);
     ask(rt, "none of the neighbours", &mut rows, 8, cells, other)?;
     ask(
         rt,
@@ -198,7 +201,7 @@ fn neighbours(rt: &impl Print, cells: &[u32]) -> io::Result<()> {
         &mut rows,
         8,
         cells,
-        wanted(Judgment::Lt(4, 5)),
+        Judgment::Lt(4, 5),
     )?;
     ask(
         rt,
@@ -206,7 +209,7 @@ fn neighbours(rt: &impl Print, cells: &[u32]) -> io::Result<()> {
         &mut rows,
         8,
         cells,
-        wanted(Judgment::Le(4, 5)),
+        Judgment::Le(4, 5),
     )
 }
 
@@ -218,7 +221,7 @@ fn annotated(rt: &impl Print, cells: &[u32]) -> io::Result<()> {
     row(&mut rows, 2, Rule::TypeZero, 0, 0, 10, 1, 0);
     row(&mut rows, 3, Rule::TypeZero, 0, 12, 2, 8, 0);
     row(&mut rows, 4, Rule::TypeZero, 0, 0, 13, 1, 0);
-    let lam = wanted(Judgment::Has(0, 0, 5, 7));
+    let lam = Judgment::Has(0, 0, 5, 7);
     ask(
         rt,
         "an annotation, by the lower cell",
@@ -227,7 +230,7 @@ fn annotated(rt: &impl Print, cells: &[u32]) -> io::Result<()> {
         cells,
         lam,
     )?;
-    let again = wanted(Judgment::Has(0, 0, 6, 8));
+    let again = Judgment::Has(0, 0, 6, 8);
     ask(
         rt,
         "an annotation, by the higher cell",
@@ -236,9 +239,9 @@ fn annotated(rt: &impl Print, cells: &[u32]) -> io::Result<()> {
         cells,
         again,
     )?;
-    let app = wanted(Judgment::Has(0, 0, 9, 1));
+    let app = Judgment::Has(0, 0, 9, 1);
     ask(rt, "an annotation inside", &mut rows, 5, cells, app)?;
-    let context = wanted(Judgment::Has(0, 11, 2, 7));
+    let context = Judgment::Has(0, 11, 2, 7);
     ask(rt, "equal cells", &mut rows, 5, cells, context)
 }
 
@@ -256,7 +259,7 @@ fn collided(rt: &impl Print, cells: &[u32]) -> io::Result<()> {
         &mut rows,
         4,
         cells,
-        wanted(Judgment::Lt(74, 22855)),
+        Judgment::Lt(74, 22855),
     )?;
     ask(
         rt,
@@ -264,7 +267,7 @@ fn collided(rt: &impl Print, cells: &[u32]) -> io::Result<()> {
         &mut rows,
         5,
         cells,
-        wanted(Judgment::Lt(74, 22855)),
+        Judgment::Lt(74, 22855),
     )?;
     ask(
         rt,
@@ -272,7 +275,7 @@ fn collided(rt: &impl Print, cells: &[u32]) -> io::Result<()> {
         &mut rows,
         5,
         cells,
-        wanted(Judgment::Lt(30986, 46738)),
+        Judgment::Lt(30986, 46738),
     )?;
     ask(
         rt,
@@ -280,7 +283,7 @@ fn collided(rt: &impl Print, cells: &[u32]) -> io::Result<()> {
         &mut rows,
         5,
         cells,
-        wanted(Judgment::Le(44333, 27115)),
+        Judgment::Le(44333, 27115),
     )?;
     ask(
         rt,
@@ -288,7 +291,7 @@ fn collided(rt: &impl Print, cells: &[u32]) -> io::Result<()> {
         &mut rows,
         1,
         cells,
-        wanted(Judgment::Lt(30986, 46738)),
+        Judgment::Lt(30986, 46738),
     )
 }
 
@@ -308,7 +311,7 @@ fn full(rt: &impl Print, cells: &[u32]) -> io::Result<()> {
         &mut rows,
         256,
         cells,
-        wanted(Judgment::Lt(127, 7)),
+        Judgment::Lt(127, 7),
     )?;
     ask(
         rt,
@@ -316,7 +319,7 @@ fn full(rt: &impl Print, cells: &[u32]) -> io::Result<()> {
         &mut rows,
         256,
         cells,
-        wanted(Judgment::Lt(0, 7)),
+        Judgment::Lt(0, 7),
     )?;
     ask(
         rt,
@@ -324,7 +327,7 @@ fn full(rt: &impl Print, cells: &[u32]) -> io::Result<()> {
         &mut rows,
         128,
         cells,
-        wanted(Judgment::Lt(5, 7)),
+        Judgment::Lt(5, 7),
     )?;
     ask(
         rt,
@@ -332,7 +335,7 @@ fn full(rt: &impl Print, cells: &[u32]) -> io::Result<()> {
         &mut rows,
         256,
         cells,
-        wanted(Judgment::Lt(128, 7)),
+        Judgment::Lt(128, 7),
     )
 }
 

@@ -8,18 +8,20 @@ use native.Mathlib.Numerals.{sub-one}
 use native.Mathlib.Omega.{arith}
 use Rattle.walk.specs.Refusal as Refusal
 pub use Rattle.ast.proofs.Laws.{greater_is}
+pub use Rattle.ast.proofs.Numbered.{kind_is, kind_isnt}
+use Rattle.ast.specs.declared.cells.Node.{Node}
 use Rattle.ast.specs.declared.cells.Shape.{Shape}
 use Rattle.ast.specs.declared.cells.Shape.TheVariants.{Universe, Pi, Lam, Path, Plam, Sigma, Pair, Other}
 use Rattle.std.specs.Prelude.{Result, Ok, Err, IsErrAnd}
 use Rattle.producer.specs.declared.intervals.IOp.{IOp}
 use Rattle.producer.specs.declared.transforms.Op.{Op}
-use Rattle.producer.specs.Machine.{Machine, W, next, ◌>>=◌, give, stop, enter, note, ended, on_universe, on_pi, on_lam, on_path, on_plam, on_sigma, on_pair}
+use Rattle.producer.specs.Machine.{Machine, W, intern, next, ◌>>=◌, give, stop, enter, note, ended, on_universe, on_pi, on_lam, on_path, on_plam, on_sigma, on_pair}
 use Rattle.producer.specs.Answers.{Answer, end, ended_answer}
 use Rattle.producer.specs.Callees.{Callees}
 use Rattle.producer.specs.Calls.{none_left, entered, callees}
 use Rattle.producer.specs.Numbers.{comparison_body, max_body}
 use Rattle.producer.specs.Intervals.{itransform_body, interval_body}
-use Rattle.producer.specs.Transforms.{transform_body, under_body}
+use Rattle.producer.specs.Transforms.{rule_of, transform_body, under_body}
 use Rattle.producer.specs.Contexts.{lookup_body, dshiftctx_body}
 use Rattle.producer.specs.Typing.{ctx_body, infer_body, universe_body, check_body, expose_body}
 use Rattle.producer.specs.Equality.{normalize_body, equal_body, reduce_body, round, rounds, on_step, on_next}
@@ -28,6 +30,14 @@ use Rattle.producer.specs.Equality.{normalize_body, equal_body, reduce_body, rou
 pub residual : {A E : Type 0} (r : Result A E) (e : E) → IsErrAnd r (λ x. x ≡ e) → r ≡ Err e
 residual (Ok x) e h = elim h [ ]
 residual (Err x) e h = rw h
+
+-- a node that is made has this kind and these parts
+pub node : {n m : Node} → n ≡ m → intern m.kind m.a m.b m.c ≡ intern n.kind n.a n.b n.c
+node h = rw h
+
+-- and the rule is that of its kind
+pub node_rule : {n m : Node} (op : Op) → n ≡ m → rule_of op m.kind ≡ rule_of op n.kind
+node_rule op h = rw h
 
 pub ready_none : (k : ℕ) (w : Machine) → k ≡ 0 → (callees k).ready w ≡ stop Refusal.nesting w
 unfolding callees none_left

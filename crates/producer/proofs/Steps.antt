@@ -1,6 +1,8 @@
 -- What the proof of every method unfolds: the steps of the machine, and the ends that its answers are. No step here is the whole of
 -- a method's contract: those stay shut where the method is called. Assumes nothing.
-use Rattle.producer.specs.Judgments.{rule_number, words_of, emit_words, emit_as}
+use Rattle.ast.specs.Kinds.{kind_number}
+use Rattle.ast.specs.Refusals.{refusal_number}
+use Rattle.producer.specs.Judgments.{rule_number, words_of, emit_words, emit_as, known_words, known_as}
 use Rattle.producer.specs.Machine.{refs_of, refs_1, refs_2, refs_3, refs_4, refs_5, refs_6, refs_7, refs_10}
 use Rattle.producer.specs.Answers.{refused_of, end, end_state, end_found, end_step, end_round}
 use Rattle.producer.specs.Equality.{on_step, on_next}
@@ -16,10 +18,10 @@ shapes = tt
 -- end of shapes
 
 unfoldable pub steps : Unit {0}
-unfolding next ◌>>=◌ give stop when◌then◌else◌ open_cell lowest same_quote shapes converting recall_or recalled_or found on_step on_next enter note ctx_by lt_by le_by refused_of end end_state end_found end_step end_round
+unfolding next ◌>>=◌ give stop when◌then◌else◌ open_cell lowest same_quote shapes converting recall_or recalled_or found on_step on_next enter note ctx_by lt_by le_by refused_of refusal_number end end_state end_found end_step end_round
 steps = tt
 
 -- what a row states: its rule, its judgment and the rows cited
 unfoldable pub stated : Unit {0}
-unfolding rule_number words_of emit_words emit_as refs_of refs_1 refs_2 refs_3 refs_4 refs_5 refs_6 refs_7 refs_10
+unfolding rule_number words_of emit_words emit_as known_words known_as kind_number refs_of refs_1 refs_2 refs_3 refs_4 refs_5 refs_6 refs_7 refs_10
 stated = tt

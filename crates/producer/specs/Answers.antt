@@ -2,6 +2,8 @@
 use Rattle.std.specs.Prelude.{ℕ, List, ◌-◌, Result, Ok, Err, Some, None}
 use Rattle.std.specs.Prelude as program
 use Rattle.std.proofs.Math.Option.{Option, none, some}
+use Rattle.ast.specs.declared.refusals.Refusal.{Refusal}
+use Rattle.ast.specs.Refusals.{refusal_number}
 use Rattle.producer.specs.declared.State.{State}
 use Rattle.producer.specs.declared.answers.Refused.{Refused}
 use Rattle.producer.specs.declared.codes.Rule.{Rule}
@@ -14,33 +16,33 @@ use Rattle.producer.specs.Judgments.{rule_number}
 abbrev pub Answer : Type 0 → Type 0
 Answer A = Result (State × A) Refused
 
-unfoldable pub refused_of : State → ℕ → Refused
-refused_of s n = record { state = s; number = n }
+unfoldable pub refused_of : State → Refusal → Refused
+refused_of s r = record { state = s; refusal = r }
 
 unfoldable pub end : {A : Type 0} → Answer A → List ℕ → List ℕ → step.Result A
 end (Ok (s, x)) R C = step.is x (machine R C s)
-end (Err e) R C = step.not e.number (machine R C e.state)
+end (Err e) R C = step.not (refusal_number e.refusal) (machine R C e.state)
 
 -- an answer of the counts alone
 unfoldable pub end_state : Result State Refused → List ℕ → List ℕ → step.Result (Unit {0})
 end_state (Ok s) R C = step.is tt (machine R C s)
-end_state (Err e) R C = step.not e.number (machine R C e.state)
+end_state (Err e) R C = step.not (refusal_number e.refusal) (machine R C e.state)
 
 unfoldable pub end_found : Answer (ℕ × Refs × Rule) → List ℕ → List ℕ → step.Result Finding
 end_found (Ok (s, (ty, refs, rule))) R C = step.is (record { type = ty; refs = refs; rule = rule_number rule }) (machine R C s)
-end_found (Err e) R C = step.not e.number (machine R C e.state)
+end_found (Err e) R C = step.not (refusal_number e.refusal) (machine R C e.state)
 
 unfoldable pub end_step : Answer (program.Option (ℕ × ℕ × ℕ)) → List ℕ → List ℕ → step.Result (Option Reduction)
 end_step (Ok (s, Some (term, ty, row))) R C = step.is (some (record { term = term; type = ty; row = row })) (machine R C s)
 end_step (Ok (s, None)) R C = step.is none (machine R C s)
-end_step (Err e) R C = step.not e.number (machine R C e.state)
+end_step (Err e) R C = step.not (refusal_number e.refusal) (machine R C e.state)
 
 unfoldable pub end_round : Answer (program.Option (ℕ × ℕ)) → List ℕ → List ℕ → step.Result (Option (ℕ × ℕ))
 end_round (Ok (s, Some x)) R C = step.is (some x) (machine R C s)
 end_round (Ok (s, None)) R C = step.is none (machine R C s)
-end_round (Err e) R C = step.not e.number (machine R C e.state)
+end_round (Err e) R C = step.not (refusal_number e.refusal) (machine R C e.state)
 
 -- a conversion has ended
 unfoldable pub ended_answer : {A : Type 0} → Answer A → Answer A
 ended_answer (Ok (s, x)) = Ok (conversions_of (s.conversions - 1) s, x)
-ended_answer (Err e) = Err (record { state = conversions_of (e.state.conversions - 1) e.state; number = e.number })
+ended_answer (Err e) = Err (record { state = conversions_of (e.state.conversions - 1) e.state; refusal = e.refusal })

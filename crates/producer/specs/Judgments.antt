@@ -1,14 +1,15 @@
 -- The program's rules by their numbers, its judgments by the words of a row, and the step that adds one. Assumes nothing.
 -- Written by tools/written.py from tools/language.py; `python3 tools/written.py` makes it again.
-use Rattle.std.specs.Prelude.{ℕ}
+use Rattle.std.specs.Prelude.{ℕ, List}
 use Rattle.walk.specs.Rule as R
+use Rattle.ast.specs.Cells.{Found}
 use Rattle.producer.specs.declared.codes.Rule.{Rule}
 use Rattle.producer.specs.declared.codes.Rule.TheVariants as rule
 use Rattle.producer.specs.declared.codes.Judgment.{Judgment}
 use Rattle.producer.specs.declared.codes.Judgment.TheVariants as judgment
 use Rattle.producer.specs.declared.codes.Words.{Words}
 use Rattle.producer.specs.declared.rows.Refs.{Refs}
-use Rattle.producer.specs.Machine.{W, emit}
+use Rattle.producer.specs.Machine.{W, emit, find_row}
 
 unfoldable pub rule_number : Rule → ℕ
 rule_number rule.CtxNil = R.ctx_nil
@@ -128,6 +129,7 @@ rule_number rule.DSubstSigma = R.dsubst_sigma
 rule_number rule.DSubstPair = R.dsubst_pair
 rule_number rule.DSubstFst = R.dsubst_fst
 rule_number rule.DSubstSnd = R.dsubst_snd
+rule_number (rule.Other n) = n
 
 unfoldable pub words_of : Judgment → Words
 words_of (judgment.Ctx x0 x1) = record { kind = 0; count = 2; a = x0; b = x1; c = 0; d = 0; e = 0 }
@@ -151,3 +153,10 @@ emit_words n l w = emit n l w.kind w.count w.a w.b w.c w.d w.e
 
 unfoldable pub emit_as : ℕ → Refs → Judgment → W ℕ
 emit_as n l j = emit_words n l (words_of j)
+
+unfoldable pub known_words : List ℕ → ℕ → Words → Found
+known_words R n w = find_row R n w.kind w.a w.b w.c w.d w.e
+
+-- the last row below n that states a judgment
+unfoldable pub known_as : List ℕ → ℕ → Judgment → Found
+known_as R n j = known_words R n (words_of j)

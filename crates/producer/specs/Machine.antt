@@ -278,10 +278,14 @@ make_cons a b = intern 33 a b 0
 -- the rows that a row cites
 
 unfoldable pub no_refs : Refs
-no_refs = record { count = 0; r0 = 0; r1 = 0; r2 = 0; r3 = 0; r4 = 0; r5 = 0; r6 = 0; r7 = 0; r8 = 0; r9 = 0 }
+no_refs = record { count = 0; rows = 0 ∷ 0 ∷ 0 ∷ 0 ∷ 0 ∷ 0 ∷ 0 ∷ 0 ∷ 0 ∷ 0 ∷ [] }
+
+-- the row in a place
+abbrev pub cited : Refs → ℕ → ℕ
+cited l n = get_or l.rows n 0
 
 unfoldable pub cons_refs : ℕ → Refs → Refs
-cons_refs x l = record { count = up l.count; r0 = x; r1 = l.r0; r2 = l.r1; r3 = l.r2; r4 = l.r3; r5 = l.r4; r6 = l.r5; r7 = l.r6; r8 = l.r7; r9 = l.r8 }
+cons_refs x l = record { count = up l.count; rows = x ∷ cited l 0 ∷ cited l 1 ∷ cited l 2 ∷ cited l 3 ∷ cited l 4 ∷ cited l 5 ∷ cited l 6 ∷ cited l 7 ∷ cited l 8 ∷ [] }
 
 unfoldable pub refs_of : List ℕ → Refs
 refs_of [] = no_refs
@@ -289,7 +293,7 @@ refs_of (x ∷ l) = cons_refs x (refs_of l)
 
 -- the first row of the one, where it has any, before the other
 unfoldable pub join_refs : Refs → Refs → Refs
-join_refs k l = ifb (eqb k.count 0) l (cons_refs k.r0 l)
+join_refs k l = ifb (eqb k.count 0) l (cons_refs (cited k 0) l)
 
 unfoldable pub refs_1 : ℕ → Refs
 refs_1 x = cons_refs x no_refs
@@ -316,7 +320,7 @@ unfoldable pub refs_10 : (x₀ x₁ x₂ x₃ x₄ x₅ x₆ x₇ x₈ x₉ : �
 refs_10 x₀ x₁ x₂ x₃ x₄ x₅ x₆ x₇ x₈ x₉ = cons_refs x₀ (cons_refs x₁ (cons_refs x₂ (refs_7 x₃ x₄ x₅ x₆ x₇ x₈ x₉)))
 
 abbrev pub row_block : ℕ → Refs → (kind count a b c d e : ℕ) → List ℕ
-row_block rule l kind count a b c d e = rule ∷ l.count ∷ l.r0 ∷ l.r1 ∷ l.r2 ∷ l.r3 ∷ l.r4 ∷ l.r5 ∷ l.r6 ∷ l.r7 ∷ l.r8 ∷ l.r9 ∷ count ∷ a ∷ b ∷ c ∷ d ∷ e ∷ 0 ∷ kind ∷ 0 ∷ 0 ∷ 0 ∷ 0 ∷ []
+row_block rule l kind count a b c d e = rule ∷ l.count ∷ cited l 0 ∷ cited l 1 ∷ cited l 2 ∷ cited l 3 ∷ cited l 4 ∷ cited l 5 ∷ cited l 6 ∷ cited l 7 ∷ cited l 8 ∷ cited l 9 ∷ count ∷ a ∷ b ∷ c ∷ d ∷ e ∷ 0 ∷ kind ∷ 0 ∷ 0 ∷ 0 ∷ 0 ∷ []
 
 abbrev pub row_word : ℕ → ℕ → List ℕ → ℕ
 row_word i k R = get_or R (i * 24 + k) 0

@@ -5,12 +5,13 @@ ghost use Rattle.producer.specs.Answers.{refused_of, ended_answer};
 use crate::State;
 use crate::codes::Rule;
 use crate::rows::Refs;
+use ast::refusals::Refusal;
 
-// The number of a refusal, with the counts that it leaves.
+// A refusal, with the counts that it leaves.
 #[derive(Clone, Copy)]
 pub struct Refused {
     pub state: State,
-    pub number: u32,
+    pub refusal: Refusal,
 }
 
 // The counts with what was found, or a refusal.
@@ -23,14 +24,14 @@ pub type Inferred = (u32, Refs, Rule);
 pub type Reduced = (u32, u32, u32);
 
 impl State {
-    // The refusal of the number, which leaves these counts.
+    // The refusal, which leaves these counts.
     #[tactic(auto, unfolding(crate::specs::Answers::refused_of))]
-    pub fn refused(self, number: u32) -> Refused
-        ensures { result ≡ refused_of self number }
+    pub fn refused(self, refusal: Refusal) -> Refused
+        ensures { result ≡ refused_of self refusal }
     {
         Refused {
             state: self,
-            number,
+            refusal,
         }
     }
 }
@@ -45,7 +46,7 @@ pub fn ended<T>(answer: Answer<T>) -> Answer<T>
         Err(refused) => {
             let state = refused.state;
             let left = state.converting(state.conversions.saturating_sub(1));
-            Err(left.refused(refused.number))
+            Err(left.refused(refused.refusal))
         }
     }
 }

@@ -10,8 +10,9 @@ use crate::answers::Answer;
 use crate::codes::{Judgment, Rule};
 use crate::rows::cite;
 use crate::transforms::Op;
-use ast::cells::{quote, read};
-use ast::{kinds, refusals};
+use ast::cells::{Node, quote, read};
+use ast::kinds::Kind;
+use ast::refusals::Refusal;
 
 impl State {
     // The context under one more dimension.
@@ -25,12 +26,12 @@ impl State {
         ensures { end result rows.new cells.new ≡ (callees left).dshiftctx g (machine rows.old cells.old self) }
     {
         if left == 0 {
-            return Err(self.refused(refusals::NESTING));
+            return Err(self.refused(Refusal::Nesting));
         }
         let down = left - 1;
         let s0 = self.deeper(down);
         let cell = read(cells, g);
-        if cell.kind == kinds::NIL {
+        if let Kind::Nil = Kind::of(cell.kind) {
             let to = quote(cells, g);
             let (s, row) = s0.emit(
                 rows,
@@ -43,7 +44,7 @@ impl State {
         }
         let (s1, (rest, x)) = s0.dshiftctx(down, rows, cells, cell.b)?;
         let (s2, (last, y)) = s1.transform(down, rows, cells, cell.a, Op::DShift(0))?;
-        let (s3, out) = s2.intern(rows, cells, kinds::CONS, last, rest, 0)?;
+        let (s3, out) = s2.intern(rows, cells, Node::new(Kind::Cons, last, rest, 0))?;
         let to = quote(cells, out);
         let (s, row) = s3.emit(
             rows,
@@ -67,13 +68,13 @@ impl State {
         ensures { end result rows.new cells.new ≡ (callees left).lookup g n (machine rows.old cells.old self) }
     {
         if left == 0 {
-            return Err(self.refused(refusals::NESTING));
+            return Err(self.refused(Refusal::Nesting));
         }
         let down = left - 1;
         let s0 = self.deeper(down);
         let cell = read(cells, g);
-        if cell.kind == kinds::NIL {
-            return Err(s0.refused(refusals::UNBOUND));
+        if let Kind::Nil = Kind::of(cell.kind) {
+            return Err(s0.refused(Refusal::Unbound));
         }
         if n == 0 {
             let (s1, (ty, x)) = s0.transform(down, rows, cells, cell.a, Op::Shift(0))?;

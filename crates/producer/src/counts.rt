@@ -7,7 +7,7 @@ ghost use Rattle.producer.specs.Calls.{callees};
 
 use crate::State;
 use crate::answers::Refused;
-use ast::refusals;
+use ast::refusals::Refusal;
 
 impl State {
     // No rows, cells or memory, with a nesting limit and room for so many rows and cells.
@@ -49,7 +49,7 @@ impl State {
         ensures { end_state result rows.now cells.now ≡ (callees left).ready (machine rows.now cells.now self) }
     {
         if left == 0 {
-            return Err(self.refused(refusals::NESTING));
+            return Err(self.refused(Refusal::Nesting));
         }
         Ok(self.deeper(left - 1))
     }

@@ -11,8 +11,9 @@ use crate::answers::{Answer, Reduced};
 use crate::codes::Rule;
 use crate::rows::cite;
 use crate::transforms::Op;
-use ast::cells::{Shape, read, same_quote, shape_of};
-use ast::{kinds, refusals};
+use ast::cells::{Node, Shape, read, same_quote, shape_of};
+use ast::kinds::Kind;
+use ast::refusals::Refusal;
 
 impl State {
     // The term reduced at its root, with its type and the row of the equation.
@@ -29,43 +30,44 @@ impl State {
         ensures { end_step result rows.new cells.new ≡ (callees left).reduce d g t (machine rows.old cells.old self) }
     {
         if left == 0 {
-            return Err(self.refused(refusals::NESTING));
+            return Err(self.refused(Refusal::Nesting));
         }
         let down = left - 1;
         let s0 = self.deeper(down);
         let cell = read(cells, t);
-        match cell.kind {
-            kinds::APP => {
+        match Kind::of(cell.kind) {
+            Kind::App => {
                 let Shape::Lam(a, body) = shape_of(cells, cell.a) else {
                     return Ok((s0, None));
                 };
                 s0.beta(down, rows, cells, d, g, t, a, body, cell.b)
             }
-            kinds::PAPP => s0.line(down, rows, cells, d, g, t, cell.a, cell.b),
-            kinds::FST => {
+            Kind::Papp => s0.line(down, rows, cells, d, g, t, cell.a, cell.b),
+            Kind::Fst => {
                 // The first part of a pair, at its type.
                 let Shape::Pair(_, a, _) = shape_of(cells, cell.a) else {
                     return Ok((s0, None));
                 };
-                let (s1, (sigma, x)) = s0.head(down, rows, cells, d, g, cell.a, kinds::SIGMA)?;
+                let (s1, (sigma, x)) = s0.head(down, rows, cells, d, g, cell.a, Kind::Sigma)?;
                 let Shape::Sigma(ty, _) = shape_of(cells, sigma) else {
-                    return Err(s1.refused(refusals::NO_SIGMA));
+                    return Err(s1.refused(Refusal::NoSigma));
                 };
                 let (s2, typed) = s1.check(down, rows, cells, d, g, a, ty)?;
                 let refs = cite([x, typed]);
                 let (s3, row) = s2.emit_eq(rows, cells, Rule::EqFstBeta, refs, d, g, t, a, ty)?;
                 Ok((s3, Some((a, ty, row))))
             }
-            kinds::SND => {
+            Kind::Snd => {
                 // The second, at its type with the first projection put in.
                 let Shape::Pair(_, _, b) = shape_of(cells, cell.a) else {
                     return Ok((s0, None));
                 };
-                let (s1, (sigma, x)) = s0.head(down, rows, cells, d, g, cell.a, kinds::SIGMA)?;
+                let (s1, (sigma, x)) = s0.head(down, rows, cells, d, g, cell.a, Kind::Sigma)?;
                 let Shape::Sigma(_, tb) = shape_of(cells, sigma) else {
-                    return Err(s1.refused(refusals::NO_SIGMA));
+                    return Err(s1.refused(Refusal::NoSigma));
                 };
-                let (s2, first) = s1.prepare(down, rows, cells, kinds::FST, cell.a, 0)?;
+                let node = Node::new(Kind::Fst, cell.a, 0, 0);
+                let (s2, first) = s1.prepare(down, rows, cells, node)?;
                 let (s3, (ty, y)) = s2.transform(down, rows, cells, tb, Op::Subst(0, first))?;
                 s3.step(down, rows, cells, d, g, t, b, ty, x, y, Rule::EqSndBeta)
             }
@@ -90,9 +92,10 @@ impl State {
         ensures { end_step result rows.new cells.new ≡ beta (callees left) d g t a body r (machine rows.old cells.old self) }
     {
         let (s1, (_, x)) = self.universe(left, rows, cells, d, g, a)?;
-        let (s2, h) = s1.prepare(left, rows, cells, kinds::CONS, a, g)?;
+        let context = Node::new(Kind::Cons, a, g, 0);
+        let (s2, h) = s1.prepare(left, rows, cells, context)?;
         let (s3, (b, y)) = s2.infer(left, rows, cells, d, h, body)?;
-        let (s4, k) = s3.prepare(left, rows, cells, kinds::CONS, a, g)?;
+        let (s4, k) = s3.prepare(left, rows, cells, context)?;
         let (s5, (_, z)) = s4.universe(left, rows, cells, d, k, b)?;
         let (s6, arg) = s5.check(left, rows, cells, d, g, r, a)?;
         s6.beta_row(left, rows, cells, d, g, t, body, r, b, x, y, z, arg)
@@ -149,18 +152,18 @@ impl State {
     ) -> Answer<Option<Reduced>>
         ensures { end_step result rows.new cells.new ≡ reduce_papp (callees left) d g t p r (machine rows.old cells.old self) }
     {
-        let (s1, (path, x)) = self.head(left, rows, cells, d, g, p, kinds::PATH)?;
+        let (s1, (path, x)) = self.head(left, rows, cells, d, g, p, Kind::Path)?;
         let Shape::Path(family, b, c) = shape_of(cells, path) else {
-            return Err(s1.refused(refusals::NO_PATH));
+            return Err(s1.refused(Refusal::NoPath));
         };
         let (s2, (ty, y)) = s1.transform(left, rows, cells, family, Op::DSubst(0, r))?;
         if let Shape::Plam(_, body) = shape_of(cells, p) {
             return s2.pbeta(left, rows, cells, d, g, t, r, body, ty, x, y);
         }
         // Otherwise it is a side of its type, at a literal end alone.
-        match read(cells, r).kind {
-            kinds::I0 => s2.step(left, rows, cells, d, g, t, b, ty, x, y, Rule::EqP0),
-            kinds::I1 => s2.step(left, rows, cells, d, g, t, c, ty, x, y, Rule::EqP1),
+        match Kind::of(read(cells, r).kind) {
+            Kind::I0 => s2.step(left, rows, cells, d, g, t, b, ty, x, y, Rule::EqP0),
+            Kind::I1 => s2.step(left, rows, cells, d, g, t, c, ty, x, y, Rule::EqP1),
             _ => Ok((s2, None)),
         }
     }
@@ -238,7 +241,7 @@ impl State {
         ensures { end result rows.new cells.new ≡ (callees left).normalize d g t ty (machine rows.old cells.old self) }
     {
         if left == 0 {
-            return Err(self.refused(refusals::NESTING));
+            return Err(self.refused(Refusal::Nesting));
         }
         let down = left - 1;
         let s0 = self.deeper(down);
@@ -276,7 +279,7 @@ impl State {
         }
         let (s1, further) = s.reduce(left, rows, cells, d, g, current)?;
         match further {
-            Some(_) => Err(s1.refused(refusals::REDUCTIONS)),
+            Some(_) => Err(s1.refused(Refusal::Reductions)),
             None => Ok((s1, (current, row))),
         }
     }
@@ -302,7 +305,7 @@ impl State {
             return Ok((s1, None));
         };
         if !same_quote(cells, at, ty) {
-            return Err(s1.refused(refusals::STEP_TYPE));
+            return Err(s1.refused(Refusal::StepType));
         }
         let (s2, _) = s1.check(left, rows, cells, d, g, term, ty)?;
         let (s3, row) = s2.emit_eq(
@@ -335,7 +338,7 @@ impl State {
         ensures { end result rows.new cells.new ≡ (callees left).equal d g a b ty (machine rows.old cells.old self) }
     {
         if left == 0 {
-            return Err(self.refused(refusals::NESTING));
+            return Err(self.refused(Refusal::Nesting));
         }
         let down = left - 1;
         let s0 = self.deeper(down);
@@ -351,6 +354,6 @@ impl State {
             let (s5, z) = s4.emit_eq(rows, cells, Rule::EqSym, reversed, d, g, other, b, ty)?;
             return s5.emit_eq(rows, cells, Rule::EqTrans, cite([x, z]), d, g, a, b, ty);
         }
-        Err(s4.refused(refusals::QUOTES))
+        Err(s4.refused(Refusal::Quotes))
     }
 }

@@ -1,5 +1,6 @@
 // Intervals: the judgment, and shifts and substitutions of dimensions.
 ghost use Rattle.std.specs.Prelude.{◌≡◌};
+ghost use Rattle.ast.specs.Kinds.{kind_number};
 ghost use Rattle.producer.specs.Answers.{end};
 ghost use Rattle.producer.specs.Judgments.{rule_number};
 ghost use Rattle.producer.specs.Machine.{machine, intern};
@@ -10,8 +11,9 @@ use crate::State;
 use crate::answers::Answer;
 use crate::codes::{Judgment, Rule};
 use crate::rows::{Refs, cite};
-use ast::cells::{Cell, quote, read};
-use ast::{kinds, refusals};
+use ast::cells::{Cell, Node, quote, read};
+use ast::kinds::Kind;
+use ast::refusals::Refusal;
 
 // What is done to an interval's dimensions: shift from k, put r for k.
 #[derive(Clone, Copy)]
@@ -38,24 +40,24 @@ impl State {
         ensures { end result rows.new cells.now ≡ (callees left).interval d r (machine rows.old cells.now self) }
     {
         if left == 0 {
-            return Err(self.refused(refusals::NESTING));
+            return Err(self.refused(Refusal::Nesting));
         }
         let down = left - 1;
         let s0 = self.deeper(down);
         let cell = read(cells, r);
         let stated = Judgment::Interval(d, cell.quote);
-        match cell.kind {
-            kinds::I0 => s0.emit(rows, cells, Rule::Interval0, cite([]), stated),
-            kinds::I1 => s0.emit(rows, cells, Rule::Interval1, cite([]), stated),
-            kinds::DIM => {
+        match Kind::of(cell.kind) {
+            Kind::I0 => s0.emit(rows, cells, Rule::Interval0, cite([]), stated),
+            Kind::I1 => s0.emit(rows, cells, Rule::Interval1, cite([]), stated),
+            Kind::Dim => {
                 let (s1, x) = s0.comparison(down, rows, cells, cell.a, d, true)?;
                 s1.emit(rows, cells, Rule::IntervalDim, cite([x]), stated)
             }
-            kinds::NEG => {
+            Kind::Neg => {
                 let (s1, x) = s0.interval(down, rows, cells, d, cell.a)?;
                 s1.emit(rows, cells, Rule::IntervalNeg, cite([x]), stated)
             }
-            kinds::MEET => s0.interval_parts(down, rows, cells, d, cell, Rule::IntervalMeet),
+            Kind::Meet => s0.interval_parts(down, rows, cells, d, cell, Rule::IntervalMeet),
             _ => s0.interval_parts(down, rows, cells, d, cell, Rule::IntervalJoin),
         }
     }
@@ -135,15 +137,13 @@ impl State {
         cells: &mut [u32],
         i: u32,
         op: IOp,
-        kind: u32,
-        a: u32,
-        b: u32,
+        node: Node,
         rule: Rule,
         refs: Refs,
     ) -> Answer<(u32, u32)>
-        ensures { end result rows.new cells.new ≡ ifinish i op (intern kind a b 0) (rule_number rule) refs (machine rows.old cells.old self) }
+        ensures { end result rows.new cells.new ≡ ifinish i op (intern node.kind node.a node.b node.c) (rule_number rule) refs (machine rows.old cells.old self) }
     {
-        let (s, out) = self.intern(rows, cells, kind, a, b, 0)?;
+        let (s, out) = self.intern(rows, cells, node)?;
         s.ifinish(rows, cells, i, op, out, rule, refs)
     }
 
@@ -166,17 +166,8 @@ impl State {
             return s.ifinish(rows, cells, i, op, i, Rule::IShiftDimLt, cite([x]));
         }
         let (s, x) = self.comparison(left, rows, cells, k, n, false)?;
-        s.imake(
-            rows,
-            cells,
-            i,
-            op,
-            kinds::DIM,
-            n.wrapping_add(1),
-            0,
-            Rule::IShiftDimGe,
-            cite([x]),
-        )
+        let node = Node::new(Kind::Dim, n.wrapping_add(1), 0, 0);
+        s.imake(rows, cells, i, op, node, Rule::IShiftDimGe, cite([x]))
     }
 
     // The dimension `n`, where `r` is put for `k`.
@@ -202,17 +193,8 @@ impl State {
             return s.ifinish(rows, cells, i, op, i, Rule::ISubstDimLt, cite([x]));
         }
         let (s, x) = self.comparison(left, rows, cells, k, n, true)?;
-        s.imake(
-            rows,
-            cells,
-            i,
-            op,
-            kinds::DIM,
-            n - 1,
-            0,
-            Rule::ISubstDimGt,
-            cite([x]),
-        )
+        let node = Node::new(Kind::Dim, n - 1, 0, 0);
+        s.imake(rows, cells, i, op, node, Rule::ISubstDimGt, cite([x]))
     }
 
     // The dimension `n`.
@@ -247,29 +229,29 @@ impl State {
         ensures { end result rows.new cells.new ≡ (callees left).itransform i op (machine rows.old cells.old self) }
     {
         if left == 0 {
-            return Err(self.refused(refusals::NESTING));
+            return Err(self.refused(Refusal::Nesting));
         }
         let down = left - 1;
         let s0 = self.deeper(down);
         let cell = read(cells, i);
-        match cell.kind {
-            kinds::I0 => {
+        match Kind::of(cell.kind) {
+            Kind::I0 => {
                 let rule = by_iop(op, Rule::IShift0, Rule::ISubst0);
                 s0.ifinish(rows, cells, i, op, i, rule, cite([]))
             }
-            kinds::I1 => {
+            Kind::I1 => {
                 let rule = by_iop(op, Rule::IShift1, Rule::ISubst1);
                 s0.ifinish(rows, cells, i, op, i, rule, cite([]))
             }
-            kinds::DIM => s0.idim(down, rows, cells, i, cell.a, op),
-            kinds::NEG => s0.ineg(down, rows, cells, i, op, cell.a),
-            kinds::MEET => {
+            Kind::Dim => s0.idim(down, rows, cells, i, cell.a, op),
+            Kind::Neg => s0.ineg(down, rows, cells, i, op, cell.a),
+            Kind::Meet => {
                 let rule = by_iop(op, Rule::IShiftMeet, Rule::ISubstMeet);
-                s0.ipair(down, rows, cells, i, op, kinds::MEET, cell.a, cell.b, rule)
+                s0.ipair(down, rows, cells, i, op, Kind::Meet, cell.a, cell.b, rule)
             }
             _ => {
                 let rule = by_iop(op, Rule::IShiftJoin, Rule::ISubstJoin);
-                s0.ipair(down, rows, cells, i, op, kinds::JOIN, cell.a, cell.b, rule)
+                s0.ipair(down, rows, cells, i, op, Kind::Join, cell.a, cell.b, rule)
             }
         }
     }
@@ -289,7 +271,8 @@ impl State {
     {
         let (s1, (a1, x)) = self.itransform(left, rows, cells, a, op)?;
         let rule = by_iop(op, Rule::IShiftNeg, Rule::ISubstNeg);
-        s1.imake(rows, cells, i, op, kinds::NEG, a1, 0, rule, cite([x]))
+        let node = Node::new(Kind::Neg, a1, 0, 0);
+        s1.imake(rows, cells, i, op, node, rule, cite([x]))
     }
 
     // A meet or a join.
@@ -301,15 +284,16 @@ impl State {
         cells: &mut [u32],
         i: u32,
         op: IOp,
-        kind: u32,
+        kind: Kind,
         a: u32,
         b: u32,
         rule: Rule,
     ) -> Answer<(u32, u32)>
-        ensures { end result rows.new cells.new ≡ ipair (callees left) i op kind a b (rule_number rule) (machine rows.old cells.old self) }
+        ensures { end result rows.new cells.new ≡ ipair (callees left) i op (kind_number kind) a b (rule_number rule) (machine rows.old cells.old self) }
     {
         let (s1, (a1, x)) = self.itransform(left, rows, cells, a, op)?;
         let (s2, (b1, y)) = s1.itransform(left, rows, cells, b, op)?;
-        s2.imake(rows, cells, i, op, kind, a1, b1, rule, cite([x, y]))
+        let node = Node::new(kind, a1, b1, 0);
+        s2.imake(rows, cells, i, op, node, rule, cite([x, y]))
     }
 }

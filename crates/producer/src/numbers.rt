@@ -9,7 +9,7 @@ use crate::State;
 use crate::answers::Answer;
 use crate::codes::{Judgment, Rule};
 use crate::rows::cite;
-use ast::refusals;
+use ast::refusals::Refusal;
 
 impl State {
     // The row of `m < n`, or of `m <= n`; refuses (17) where it is not so.
@@ -25,13 +25,13 @@ impl State {
         ensures { end result rows.new cells.now ≡ (callees left).comparison m n strict (machine rows.old cells.now self) }
     {
         if left == 0 {
-            return Err(self.refused(refusals::NESTING));
+            return Err(self.refused(Refusal::Nesting));
         }
         let down = left - 1;
         let s0 = self.deeper(down);
         if strict {
             if n <= m {
-                return Err(s0.refused(refusals::DIMENSION));
+                return Err(s0.refused(Refusal::Dimension));
             }
             if m == 0 {
                 return s0.emit(rows, cells, Rule::LtZ, cite([]), Judgment::Lt(m, n));
@@ -40,7 +40,7 @@ impl State {
             return s1.emit(rows, cells, Rule::LtS, cite([x]), Judgment::Lt(m, n));
         }
         if n < m {
-            return Err(s0.refused(refusals::DIMENSION));
+            return Err(s0.refused(Refusal::Dimension));
         }
         if m == 0 {
             return s0.emit(rows, cells, Rule::LeZ, cite([]), Judgment::Le(m, n));
@@ -54,7 +54,7 @@ impl State {
         ensures { end result rows.new cells.now ≡ (callees left).max m n (machine rows.old cells.now self) }
     {
         if left == 0 {
-            return Err(self.refused(refusals::NESTING));
+            return Err(self.refused(Refusal::Nesting));
         }
         let down = left - 1;
         let s0 = self.deeper(down);

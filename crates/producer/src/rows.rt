@@ -3,7 +3,7 @@
 ghost use Rattle.std.specs.Prelude.{◌≡◌, ◌*◌};
 ghost use Rattle.std.proofs.lemmas.List.Edits.{sets};
 ghost use Rattle.producer.specs.Answers.{end};
-ghost use Rattle.producer.specs.Judgments.{emit_as, rule_number};
+ghost use Rattle.producer.specs.Judgments.{emit_as, emit_words, known_as, rule_number};
 ghost use Rattle.producer.specs.Machine.{machine, row_slot, quarter, row_hash, find_row, link_row, cons_refs, join_refs, refs_of, row_block, same_row, emit_has, emit_eq};
 
 use crate::State;
@@ -11,23 +11,14 @@ use crate::answers::Answer;
 use crate::codes::{Judgment, Rule, Words};
 use ast::cells::quote;
 use ast::index::{Indexed, hash, last, link, mix};
-use ast::refusals;
+use ast::refusals::Refusal;
 use ast::words::{put_all, word};
 
-// The rows cited: how many, and ten words.
+// The rows cited: how many, and these; 0 past the last.
 #[derive(Clone, Copy)]
 pub struct Refs {
     pub count: u32,
-    pub r0: u32,
-    pub r1: u32,
-    pub r2: u32,
-    pub r3: u32,
-    pub r4: u32,
-    pub r5: u32,
-    pub r6: u32,
-    pub r7: u32,
-    pub r8: u32,
-    pub r9: u32,
+    pub rows: [u32; 10],
 }
 
 // A row cited before others.
@@ -35,19 +26,10 @@ pub struct Refs {
 pub fn cite_before(x: u32, refs: Refs) -> Refs
     ensures { result ≡ cons_refs x refs }
 {
-    let count = refs.count.wrapping_add(1);
+    let r = refs.rows;
     Refs {
-        count,
-        r0: x,
-        r1: refs.r0,
-        r2: refs.r1,
-        r3: refs.r2,
-        r4: refs.r3,
-        r5: refs.r4,
-        r6: refs.r5,
-        r7: refs.r6,
-        r8: refs.r7,
-        r9: refs.r8,
+        count: refs.count.wrapping_add(1),
+        rows: [x, r[0], r[1], r[2], r[3], r[4], r[5], r[6], r[7], r[8]],
     }
 }
 
@@ -58,16 +40,7 @@ pub fn cite<const N: usize>(rows: [u32; N]) -> Refs
 {
     let mut refs = Refs {
         count: 0,
-        r0: 0,
-        r1: 0,
-        r2: 0,
-        r3: 0,
-        r4: 0,
-        r5: 0,
-        r6: 0,
-        r7: 0,
-        r8: 0,
-        r9: 0,
+        rows: [0; 10],
     };
     for i in (0..N).rev() {
         refs = cite_before(rows[i], refs);
@@ -83,7 +56,7 @@ pub fn cite_first(first: Refs, refs: Refs) -> Refs
     if first.count == 0 {
         return refs;
     }
-    cite_before(first.r0, refs)
+    cite_before(first.rows[0], refs)
 }
 
 // Where row `i` starts.
@@ -96,26 +69,26 @@ pub fn row_start(i: u32) -> usize
 // Whether row `i` has the judgment's kind and arguments. The third argument is looked at first: it tells most rows apart, and a search
 // goes through many.
 #[tactic(auto, unfolding(crate::specs::Machine::same_row, ast::specs::Words::all_eq))]
-pub fn same_row(rows: &[u32], i: u32, kind: u32, a: u32, b: u32, c: u32, d: u32, e: u32) -> bool
-    ensures { result ≡ same_row rows.now kind a b c d e i }
+pub fn same_row(rows: &[u32], i: u32, words: Words) -> bool
+    ensures { result ≡ same_row rows.now words.kind words.a words.b words.c words.d words.e i }
 {
     let at = row_start(i);
-    word(rows, at + 15) == c
-        && word(rows, at + 14) == b
-        && word(rows, at + 19) == kind
-        && word(rows, at + 13) == a
-        && word(rows, at + 16) == d
-        && word(rows, at + 17) == e
+    word(rows, at + 15) == words.c
+        && word(rows, at + 14) == words.b
+        && word(rows, at + 19) == words.kind
+        && word(rows, at + 13) == words.a
+        && word(rows, at + 16) == words.d
+        && word(rows, at + 17) == words.e
 }
 
 // The hash of a judgment.
 #[tactic(auto, unfolding(crate::specs::Machine::row_hash))]
-pub fn row_hash(kind: u32, a: u32, b: u32, c: u32, d: u32, e: u32) -> u32
-    ensures { result ≡ row_hash kind a b c d e }
+pub fn row_hash(words: Words) -> u32
+    ensures { result ≡ row_hash words.kind words.a words.b words.c words.d words.e }
 {
-    let h0 = hash(kind, a, b, c);
-    let h1 = mix(h0, d);
-    mix(h1, e)
+    let h0 = hash(words.kind, words.a, words.b, words.c);
+    let h1 = mix(h0, words.d);
+    mix(h1, words.e)
 }
 
 // The table of rows, as one that is indexed: four children of a row stand in its last words.
@@ -138,59 +111,84 @@ impl Indexed for Rows {
 }
 
 // The last row below `n` that has the judgment's kind and arguments.
-pub fn find_row(
-    rows: &[u32],
-    n: u32,
-    kind: u32,
-    a: u32,
-    b: u32,
-    c: u32,
-    d: u32,
-    e: u32,
-) -> Option<u32>
-    ensures { result ≡ find_row rows.now n kind a b c d e }
+pub fn find_row(rows: &[u32], n: u32, words: Words) -> Option<u32>
+    ensures { result ≡ find_row rows.now n words.kind words.a words.b words.c words.d words.e }
 {
-    let h = row_hash(kind, a, b, c, d, e);
-    last::<Rows, _>(rows, n, h, |i| same_row(rows, i, kind, a, b, c, d, e))
+    let h = row_hash(words);
+    last::<Rows, _>(rows, n, h, |i| same_row(rows, i, words))
 }
 
 // The row `n` with the judgment comes at the end of its path.
 #[tactic(auto, unfolding(crate::specs::Machine::link_row))]
-pub fn link_row(rows: &mut [u32], n: u32, kind: u32, a: u32, b: u32, c: u32, d: u32, e: u32)
-    ensures { rows.new ≡ link_row rows.old n kind a b c d e }
+pub fn link_row(rows: &mut [u32], n: u32, words: Words)
+    ensures { rows.new ≡ link_row rows.old n words.kind words.a words.b words.c words.d words.e }
 {
-    let h = row_hash(kind, a, b, c, d, e);
+    let h = row_hash(words);
     link::<Rows>(rows, n, h);
 }
 
 // Stores row `n`.
-pub fn put_row(
-    rows: &mut [u32],
-    n: u32,
-    rule: u32,
-    refs: Refs,
-    kind: u32,
-    count: u32,
-    a: u32,
-    b: u32,
-    c: u32,
-    d: u32,
-    e: u32,
-)
-    ensures { rows.new ≡ sets rows.old (n * 24) (row_block rule refs kind count a b c d e) }
+pub fn put_row(rows: &mut [u32], n: u32, rule: u32, refs: Refs, words: Words)
+    ensures { rows.new ≡ sets rows.old (n * 24) (row_block rule refs words.kind words.count words.a words.b words.c words.d words.e) }
 {
+    let Words {
+        kind,
+        count,
+        a,
+        b,
+        c,
+        d,
+        e,
+    } = words;
+    let r = refs.rows;
     let row = [
-        rule, refs.count, refs.r0, refs.r1, refs.r2, refs.r3, refs.r4, refs.r5, refs.r6, refs.r7,
-        refs.r8, refs.r9, count, a, b, c, d, e, 0, kind, 0, 0, 0, 0,
+        rule, refs.count, r[0], r[1], r[2], r[3], r[4], r[5], r[6], r[7], r[8], r[9], count, a, b,
+        c, d, e, 0, kind, 0, 0, 0, 0,
     ];
     put_all(rows, row_start(n), &row);
 }
 
 impl State {
-    // The row with the judgment: the last that has it, or a new one; refuses (18) where none is left.
-    #[tactic(auto, unfolding(crate::specs::Machine::emit, crate::specs::Machine::known_row, crate::specs::Machine::known_or, crate::specs::Machine::new_row, crate::specs::Machine::add_row, crate::specs::Judgments::emit_as, crate::proofs::Steps::steps, crate::proofs::Steps::stated))]
-    pub fn emit(
+    // The row that states the judgment already: the last that does.
+    #[tactic(auto, unfolding(crate::specs::Judgments::known_as, crate::specs::Judgments::known_words))]
+    pub fn known(self, rows: &[u32], judgment: Judgment) -> Option<u32>
+        ensures { result ≡ known_as rows.now self.rows judgment }
+    {
+        find_row(rows, self.rows, judgment.words())
+    }
+
+    // The row with the kind and the arguments: the last that has them, or a new one, by the rule; refuses (18) where none is left. Any
+    // number may be the kind, or the rule.
+    #[tactic(auto, unfolding(crate::specs::Machine::emit, crate::specs::Machine::known_row, crate::specs::Machine::known_or, crate::specs::Machine::new_row, crate::specs::Machine::add_row, crate::specs::Judgments::emit_words, crate::proofs::Steps::steps))]
+    pub fn emit_words(
         mut self,
+        rows: &mut [u32],
+        cells: &[u32],
+        rule: u32,
+        refs: Refs,
+        words: Words,
+    ) -> Answer<u32>
+        ensures { end result rows.new cells.now ≡ emit_words rule refs words (machine rows.old cells.now self) }
+    {
+        let n = self.rows;
+        match find_row(rows, n, words) {
+            Some(i) => Ok((self, i)),
+            None => {
+                if n < self.rowroom {
+                    link_row(rows, n, words);
+                    put_row(rows, n, rule, refs, words);
+                    self.rows = n + 1;
+                    return Ok((self, n));
+                }
+                Err(self.refused(Refusal::Rows))
+            }
+        }
+    }
+
+    // The row with the judgment: the last that has it, or a new one, by the rule.
+    #[tactic(auto, unfolding(crate::specs::Judgments::emit_as))]
+    pub fn emit(
+        self,
         rows: &mut [u32],
         cells: &[u32],
         rule: Rule,
@@ -199,28 +197,7 @@ impl State {
     ) -> Answer<u32>
         ensures { end result rows.new cells.now ≡ emit_as (rule_number rule) refs judgment (machine rows.old cells.now self) }
     {
-        let n = self.rows;
-        let Words {
-            kind,
-            count,
-            a,
-            b,
-            c,
-            d,
-            e,
-        } = judgment.words();
-        match find_row(rows, n, kind, a, b, c, d, e) {
-            Some(i) => Ok((self, i)),
-            None => {
-                if n < self.rowroom {
-                    link_row(rows, n, kind, a, b, c, d, e);
-                    put_row(rows, n, rule.number(), refs, kind, count, a, b, c, d, e);
-                    self.rows = n + 1;
-                    return Ok((self, n));
-                }
-                Err(self.refused(refusals::ROWS))
-            }
-        }
+        self.emit_words(rows, cells, rule.number(), refs, judgment.words())
     }
 
     // The row of a typing: by quotes.

@@ -8,24 +8,15 @@ ghost use Rattle.producer.specs.Calls.{callees};
 use crate::State;
 use crate::answers::{Answer, Refused};
 use ast::cells::{Node, find_node, inference, link_cell, lowest, put_again, put_cell};
-use ast::refusals;
+use ast::refusals::Refusal;
 
 impl State {
-    // The cell with the kind and the parts: the one that has them, or a new one; refuses (20) where none is left.
+    // The cell of the node: the one that has its kind and parts, or a new one; refuses (20) where none is left.
     #[tactic(auto, unfolding(crate::specs::Machine::intern, crate::specs::Machine::known_or, crate::specs::Machine::new_cell, crate::specs::Machine::add_cell, crate::proofs::Steps::steps))]
-    pub fn intern(
-        mut self,
-        rows: &[u32],
-        cells: &mut [u32],
-        kind: u32,
-        a: u32,
-        b: u32,
-        c: u32,
-    ) -> Answer<u32>
-        ensures { end result rows.now cells.new ≡ intern kind a b c (machine rows.now cells.old self) }
+    pub fn intern(mut self, rows: &[u32], cells: &mut [u32], node: Node) -> Answer<u32>
+        ensures { end result rows.now cells.new ≡ intern node.kind node.a node.b node.c (machine rows.now cells.old self) }
     {
         let n = self.cells;
-        let node = Node { kind, a, b, c };
         match find_node(cells, n, node) {
             Some(i) => Ok((self, i)),
             None => {
@@ -36,7 +27,7 @@ impl State {
                     self.cells = n + 1;
                     return Ok((self, n));
                 }
-                Err(self.refused(refusals::CELLS))
+                Err(self.refused(Refusal::Cells))
             }
         }
     }
@@ -69,25 +60,17 @@ impl State {
                     self.cells = n + 1;
                     return Ok(self);
                 }
-                Err(self.refused(refusals::CELLS))
+                Err(self.refused(Refusal::Cells))
             }
         }
     }
 
     // A cell that is an argument of a call about to be made: 19 precedes 20.
     #[tactic(auto, unfolding(crate::specs::Callees::prepared, crate::proofs::Steps::steps))]
-    pub fn prepare(
-        self,
-        left: u32,
-        rows: &[u32],
-        cells: &mut [u32],
-        kind: u32,
-        a: u32,
-        b: u32,
-    ) -> Answer<u32>
-        ensures { end result rows.now cells.new ≡ prepared (callees left) (intern kind a b 0) (machine rows.now cells.old self) }
+    pub fn prepare(self, left: u32, rows: &[u32], cells: &mut [u32], node: Node) -> Answer<u32>
+        ensures { end result rows.now cells.new ≡ prepared (callees left) (intern node.kind node.a node.b node.c) (machine rows.now cells.old self) }
     {
         let s = self.ready(left, rows, cells)?;
-        s.intern(rows, cells, kind, a, b, 0)
+        s.intern(rows, cells, node)
     }
 }

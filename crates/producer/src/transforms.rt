@@ -1,5 +1,6 @@
 // Transforms of terms: shifts and substitutions, of variables and of dimensions. Each call has less nesting left.
 ghost use Rattle.std.specs.Prelude.{◌≡◌};
+ghost use Rattle.ast.specs.Kinds.{kind_number};
 ghost use Rattle.producer.specs.Answers.{end};
 ghost use Rattle.producer.specs.Judgments.{rule_number};
 ghost use Rattle.producer.specs.Machine.{machine, intern, make_var};
@@ -11,8 +12,9 @@ use crate::answers::Answer;
 use crate::codes::{Judgment, Rule};
 use crate::intervals::IOp;
 use crate::rows::{Refs, cite, cite_before, cite_first};
-use ast::cells::{Cell, quote, read};
-use ast::{kinds, refusals};
+use ast::cells::{Cell, Node, quote, read};
+use ast::kinds::Kind;
+use ast::refusals::Refusal;
 
 // What is done to a term: shift from k, put r for k; of variables, or of dimensions.
 #[derive(Clone, Copy)]
@@ -42,87 +44,87 @@ pub fn by_op(op: Op, a: Rule, b: Rule, c: Rule, d: Rule) -> Rule
 pub fn rule_of(op: Op, kind: u32) -> Rule
     ensures { rule_number result ≡ rule_of op kind }
 {
-    match kind {
+    match Kind::of(kind) {
         // written by tools/written.py: rules of a kind
-        kinds::UNIVERSE => by_op(op, Rule::ShiftU, Rule::SubstU, Rule::DShiftU, Rule::DSubstU),
-        kinds::NAT => by_op(
+        Kind::Universe => by_op(op, Rule::ShiftU, Rule::SubstU, Rule::DShiftU, Rule::DSubstU),
+        Kind::Nat => by_op(
             op,
             Rule::ShiftNat,
             Rule::SubstNat,
             Rule::DShiftNat,
             Rule::DSubstNat,
         ),
-        kinds::ZERO => by_op(
+        Kind::Zero => by_op(
             op,
             Rule::ShiftZero,
             Rule::SubstZero,
             Rule::DShiftZero,
             Rule::DSubstZero,
         ),
-        kinds::PI => by_op(
+        Kind::Pi => by_op(
             op,
             Rule::ShiftPi,
             Rule::SubstPi,
             Rule::DShiftPi,
             Rule::DSubstPi,
         ),
-        kinds::LAM => by_op(
+        Kind::Lam => by_op(
             op,
             Rule::ShiftLam,
             Rule::SubstLam,
             Rule::DShiftLam,
             Rule::DSubstLam,
         ),
-        kinds::APP => by_op(
+        Kind::App => by_op(
             op,
             Rule::ShiftApp,
             Rule::SubstApp,
             Rule::DShiftApp,
             Rule::DSubstApp,
         ),
-        kinds::PATH => by_op(
+        Kind::Path => by_op(
             op,
             Rule::ShiftPath,
             Rule::SubstPath,
             Rule::DShiftPath,
             Rule::DSubstPath,
         ),
-        kinds::PLAM => by_op(
+        Kind::Plam => by_op(
             op,
             Rule::ShiftPlam,
             Rule::SubstPlam,
             Rule::DShiftPlam,
             Rule::DSubstPlam,
         ),
-        kinds::PAPP => by_op(
+        Kind::Papp => by_op(
             op,
             Rule::ShiftPapp,
             Rule::SubstPapp,
             Rule::DShiftPapp,
             Rule::DSubstPapp,
         ),
-        kinds::SIGMA => by_op(
+        Kind::Sigma => by_op(
             op,
             Rule::ShiftSigma,
             Rule::SubstSigma,
             Rule::DShiftSigma,
             Rule::DSubstSigma,
         ),
-        kinds::PAIR => by_op(
+        Kind::Pair => by_op(
             op,
             Rule::ShiftPair,
             Rule::SubstPair,
             Rule::DShiftPair,
             Rule::DSubstPair,
         ),
-        kinds::FST => by_op(
+        Kind::Fst => by_op(
             op,
             Rule::ShiftFst,
             Rule::SubstFst,
             Rule::DShiftFst,
             Rule::DSubstFst,
         ),
-        kinds::SND => by_op(
+        Kind::Snd => by_op(
             op,
             Rule::ShiftSnd,
             Rule::SubstSnd,
@@ -130,7 +132,7 @@ pub fn rule_of(op: Op, kind: u32) -> Rule
             Rule::DSubstSnd,
         ),
         // end of rules of a kind
-        _ => Rule::CtxNil,
+        _ => Rule::Other(0),
     }
 }
 
@@ -191,21 +193,18 @@ impl State {
         cells: &mut [u32],
         i: u32,
         op: Op,
-        kind: u32,
-        a: u32,
-        b: u32,
-        c: u32,
+        node: Node,
         refs: Refs,
     ) -> Answer<(u32, u32)>
-        ensures { end result rows.new cells.new ≡ finish i op (intern kind a b c) (rule_of op kind) refs (machine rows.old cells.old self) }
+        ensures { end result rows.new cells.new ≡ finish i op (intern node.kind node.a node.b node.c) (rule_of op node.kind) refs (machine rows.old cells.old self) }
     {
-        let (s, out) = self.intern(rows, cells, kind, a, b, c)?;
-        let rule = rule_of(op, kind);
+        let (s, out) = self.intern(rows, cells, node)?;
+        let rule = rule_of(op, node.kind);
         s.finish(rows, cells, i, op, out, rule, refs)
     }
 
     // The same of a variable, which has a rule for each way that it compares.
-    #[tactic(auto, unfolding(crate::specs::Transforms::finish, crate::proofs::Steps::steps))]
+    #[tactic(auto, unfolding(crate::specs::Transforms::finish, crate::proofs::Steps::steps, crate::proofs::Steps::stated))]
     pub fn tmake_var(
         self,
         rows: &mut [u32],
@@ -218,7 +217,7 @@ impl State {
     ) -> Answer<(u32, u32)>
         ensures { end result rows.new cells.new ≡ finish i op (make_var n) (rule_number rule) refs (machine rows.old cells.old self) }
     {
-        let (s, out) = self.intern(rows, cells, kinds::VAR, n, 0, 0)?;
+        let (s, out) = self.intern(rows, cells, Node::new(Kind::Var, n, 0, 0))?;
         s.finish(rows, cells, i, op, out, rule, refs)
     }
 
@@ -333,12 +332,12 @@ impl State {
         ensures { end result rows.new cells.new ≡ (callees left).transform i op (machine rows.old cells.old self) }
     {
         if left == 0 {
-            return Err(self.refused(refusals::NESTING));
+            return Err(self.refused(Refusal::Nesting));
         }
         let down = left - 1;
         let s0 = self.deeper(down);
         let cell = read(cells, i);
-        if cell.kind == kinds::VAR {
+        if let Kind::Var = Kind::of(cell.kind) {
             return s0.tvar(down, rows, cells, i, cell.a, op);
         }
         s0.compound(down, rows, cells, i, op, cell)
@@ -357,18 +356,18 @@ impl State {
     ) -> Answer<(u32, u32)>
         ensures { end result rows.new cells.new ≡ compound (callees left) i op cell (machine rows.old cells.old self) }
     {
-        match cell.kind {
-            kinds::PI => self.tbinder(left, rows, cells, i, op, kinds::PI, cell.a, cell.b),
-            kinds::LAM => self.tlam(left, rows, cells, i, op, cell.a, cell.b),
-            kinds::APP => self.tapp(left, rows, cells, i, op, cell.a, cell.b),
-            kinds::PATH => self.tpath(left, rows, cells, i, op, cell.a, cell.b, cell.c),
-            kinds::PLAM => self.tplam(left, rows, cells, i, op, cell.a, cell.b),
-            kinds::PAPP => self.tpapp(left, rows, cells, i, op, cell.a, cell.b),
-            kinds::SIGMA => self.tbinder(left, rows, cells, i, op, kinds::SIGMA, cell.a, cell.b),
-            kinds::PAIR => self.tpair(left, rows, cells, i, op, cell.a, cell.b, cell.c),
-            kinds::FST => self.tproject(left, rows, cells, i, op, kinds::FST, cell.a),
-            kinds::SND => self.tproject(left, rows, cells, i, op, kinds::SND, cell.a),
-            kind => self.finish(rows, cells, i, op, i, rule_of(op, kind), cite([])),
+        match Kind::of(cell.kind) {
+            Kind::Pi => self.tbinder(left, rows, cells, i, op, Kind::Pi, cell.a, cell.b),
+            Kind::Lam => self.tlam(left, rows, cells, i, op, cell.a, cell.b),
+            Kind::App => self.tapp(left, rows, cells, i, op, cell.a, cell.b),
+            Kind::Path => self.tpath(left, rows, cells, i, op, cell.a, cell.b, cell.c),
+            Kind::Plam => self.tplam(left, rows, cells, i, op, cell.a, cell.b),
+            Kind::Papp => self.tpapp(left, rows, cells, i, op, cell.a, cell.b),
+            Kind::Sigma => self.tbinder(left, rows, cells, i, op, Kind::Sigma, cell.a, cell.b),
+            Kind::Pair => self.tpair(left, rows, cells, i, op, cell.a, cell.b, cell.c),
+            Kind::Fst => self.tproject(left, rows, cells, i, op, Kind::Fst, cell.a),
+            Kind::Snd => self.tproject(left, rows, cells, i, op, Kind::Snd, cell.a),
+            _ => self.finish(rows, cells, i, op, i, rule_of(op, cell.kind), cite([])),
         }
     }
 
@@ -381,24 +380,22 @@ impl State {
         cells: &mut [u32],
         i: u32,
         op: Op,
-        kind: u32,
+        kind: Kind,
         a: u32,
         b: u32,
     ) -> Answer<(u32, u32)>
-        ensures { end result rows.new cells.new ≡ transform_binder (callees left) i op kind a b (machine rows.old cells.old self) }
+        ensures { end result rows.new cells.new ≡ transform_binder (callees left) i op (kind_number kind) a b (machine rows.old cells.old self) }
     {
         let (s1, (a1, x)) = self.transform(left, rows, cells, a, op)?;
         let (s2, (inner, first)) = s1.under(left, rows, cells, op, false)?;
         let (s3, (b1, y)) = s2.transform(left, rows, cells, b, inner)?;
+        let node = Node::new(kind, a1, b1, 0);
         s3.tmake(
             rows,
             cells,
             i,
             op,
-            kind,
-            a1,
-            b1,
-            0,
+            node,
             cite_before(x, cite_first(first, cite([y]))),
         )
     }
@@ -420,17 +417,8 @@ impl State {
         let (s1, (a1, _)) = self.transform(left, rows, cells, a, op)?;
         let (s2, (inner, first)) = s1.under(left, rows, cells, op, false)?;
         let (s3, (b1, y)) = s2.transform(left, rows, cells, b, inner)?;
-        s3.tmake(
-            rows,
-            cells,
-            i,
-            op,
-            kinds::LAM,
-            a1,
-            b1,
-            0,
-            cite_first(first, cite([y])),
-        )
+        let node = Node::new(Kind::Lam, a1, b1, 0);
+        s3.tmake(rows, cells, i, op, node, cite_first(first, cite([y])))
     }
 
     // An application.
@@ -449,7 +437,8 @@ impl State {
     {
         let (s1, (f1, x)) = self.transform(left, rows, cells, f, op)?;
         let (s2, (a1, y)) = s1.transform(left, rows, cells, a, op)?;
-        s2.tmake(rows, cells, i, op, kinds::APP, f1, a1, 0, cite([x, y]))
+        let node = Node::new(Kind::App, f1, a1, 0);
+        s2.tmake(rows, cells, i, op, node, cite([x, y]))
     }
 
     // A path type: its first part lies under a dimension.
@@ -471,17 +460,8 @@ impl State {
         let (s1, (a1, x)) = s0.transform(left, rows, cells, a, inner)?;
         let (s2, (b1, y)) = s1.transform(left, rows, cells, b, op)?;
         let (s3, (c1, z)) = s2.transform(left, rows, cells, c, op)?;
-        s3.tmake(
-            rows,
-            cells,
-            i,
-            op,
-            kinds::PATH,
-            a1,
-            b1,
-            c1,
-            cite_first(first, cite([x, y, z])),
-        )
+        let node = Node::new(Kind::Path, a1, b1, c1);
+        s3.tmake(rows, cells, i, op, node, cite_first(first, cite([x, y, z])))
     }
 
     // As of a lam, the annotation's row is not cited.
@@ -501,17 +481,8 @@ impl State {
         let (s0, (inner, first)) = self.under(left, rows, cells, op, true)?;
         let (s1, (a1, _)) = s0.transform(left, rows, cells, a, inner)?;
         let (s2, (b1, y)) = s1.transform(left, rows, cells, b, inner)?;
-        s2.tmake(
-            rows,
-            cells,
-            i,
-            op,
-            kinds::PLAM,
-            a1,
-            b1,
-            0,
-            cite_first(first, cite([y])),
-        )
+        let node = Node::new(Kind::Plam, a1, b1, 0);
+        s2.tmake(rows, cells, i, op, node, cite_first(first, cite([y])))
     }
 
     // A path that is applied: its interval has dimensions, and no variables.
@@ -530,17 +501,8 @@ impl State {
     {
         let (s1, (p1, x)) = self.transform(left, rows, cells, p, op)?;
         let (s2, (r1, rest)) = s1.tinterval(left, rows, cells, r, op)?;
-        s2.tmake(
-            rows,
-            cells,
-            i,
-            op,
-            kinds::PAPP,
-            p1,
-            r1,
-            0,
-            cite_before(x, rest),
-        )
+        let node = Node::new(Kind::Papp, p1, r1, 0);
+        s2.tmake(rows, cells, i, op, node, cite_before(x, rest))
     }
 
     // A pair: as of a lam, the annotation's row is not cited.
@@ -561,7 +523,8 @@ impl State {
         let (s1, (ty1, _)) = self.transform(left, rows, cells, ty, op)?;
         let (s2, (a1, x)) = s1.transform(left, rows, cells, a, op)?;
         let (s3, (b1, y)) = s2.transform(left, rows, cells, b, op)?;
-        s3.tmake(rows, cells, i, op, kinds::PAIR, ty1, a1, b1, cite([x, y]))
+        let node = Node::new(Kind::Pair, ty1, a1, b1);
+        s3.tmake(rows, cells, i, op, node, cite([x, y]))
     }
 
     // One part: a projection.
@@ -573,13 +536,14 @@ impl State {
         cells: &mut [u32],
         i: u32,
         op: Op,
-        kind: u32,
+        kind: Kind,
         p: u32,
     ) -> Answer<(u32, u32)>
-        ensures { end result rows.new cells.new ≡ transform_projection (callees left) i op kind p (machine rows.old cells.old self) }
+        ensures { end result rows.new cells.new ≡ transform_projection (callees left) i op (kind_number kind) p (machine rows.old cells.old self) }
     {
         let (s1, (p1, x)) = self.transform(left, rows, cells, p, op)?;
-        s1.tmake(rows, cells, i, op, kind, p1, 0, 0, cite([x]))
+        let node = Node::new(kind, p1, 0, 0);
+        s1.tmake(rows, cells, i, op, node, cite([x]))
     }
 
     // The operation under one more binder, of a dimension or of a variable, with the rows that this cites.
@@ -595,7 +559,7 @@ impl State {
         ensures { end result rows.new cells.new ≡ (callees left).under op dimension (machine rows.old cells.old self) }
     {
         if left == 0 {
-            return Err(self.refused(refusals::NESTING));
+            return Err(self.refused(Refusal::Nesting));
         }
         let down = left - 1;
         let s0 = self.deeper(down);

@@ -1,6 +1,7 @@
 // Typing: contexts, inference, universes, checks, exposed types. With equality.rt these form one cycle of calls;
 // a reference function is entered with one less nesting left, and an arm of one keeps what is left.
 ghost use Rattle.std.specs.Prelude.{◌≡◌};
+ghost use Rattle.ast.specs.Kinds.{kind_number};
 ghost use Rattle.producer.specs.Answers.{end, end_found};
 ghost use Rattle.producer.specs.Judgments.{rule_number};
 ghost use Rattle.producer.specs.Machine.{machine};
@@ -9,11 +10,12 @@ ghost use Rattle.producer.specs.Calls.{callees};
 
 use crate::State;
 use crate::answers::{Answer, Inferred, ended};
-use crate::codes::{IS_CTX, Judgment, Rule};
-use crate::rows::{cite, find_row};
+use crate::codes::{Judgment, Rule};
+use crate::rows::cite;
 use crate::transforms::Op;
-use ast::cells::{Shape, read, recall, same_quote, shape_of};
-use ast::{kinds, refusals};
+use ast::cells::{Node, Shape, read, recall, same_quote, shape_of};
+use ast::kinds::Kind;
+use ast::refusals::Refusal;
 
 impl State {
     // The row of a context: a known one answers its row.
@@ -22,15 +24,15 @@ impl State {
         ensures { end result rows.new cells.new ≡ (callees left).ctx d g (machine rows.old cells.old self) }
     {
         if left == 0 {
-            return Err(self.refused(refusals::NESTING));
+            return Err(self.refused(Refusal::Nesting));
         }
         let down = left - 1;
         let s0 = self.deeper(down);
         let cell = read(cells, g);
-        match find_row(rows, s0.rows, IS_CTX, d, cell.quote, 0, 0, 0) {
+        match s0.known(rows, Judgment::Ctx(d, cell.quote)) {
             Some(i) => Ok((s0, i)),
             None => {
-                if cell.kind == kinds::NIL {
+                if let Kind::Nil = Kind::of(cell.kind) {
                     return s0.emit(
                         rows,
                         cells,
@@ -68,17 +70,18 @@ impl State {
         ensures { end result rows.new cells.new ≡ (callees left).expose d g t ty typed (machine rows.old cells.old self) }
     {
         if left == 0 {
-            return Err(self.refused(refusals::NESTING));
+            return Err(self.refused(Refusal::Nesting));
         }
         let down = left - 1;
         let s0 = self.deeper(down);
         let (s1, (level, _)) = s0.universe(down, rows, cells, d, g, ty)?;
-        let (s2, u) = s1.prepare(down, rows, cells, kinds::UNIVERSE, level, 0)?;
+        let universe = Node::new(Kind::Universe, level, 0, 0);
+        let (s2, u) = s1.prepare(down, rows, cells, universe)?;
         let (s3, (normal, x)) = s2.normalize(down, rows, cells, d, g, ty, u)?;
         if same_quote(cells, normal, ty) {
             return Ok((s3, (normal, typed)));
         }
-        let (s4, v) = s3.prepare(down, rows, cells, kinds::UNIVERSE, level, 0)?;
+        let (s4, v) = s3.prepare(down, rows, cells, universe)?;
         let (s5, formed) = s4.check(down, rows, cells, d, g, normal, v)?;
         let (s6, row) = s5.emit_has(
             rows,
@@ -107,7 +110,7 @@ impl State {
         ensures { end result rows.new cells.new ≡ (callees left).universe d g t (machine rows.old cells.old self) }
     {
         if left == 0 {
-            return Err(self.refused(refusals::NESTING));
+            return Err(self.refused(Refusal::Nesting));
         }
         let down = left - 1;
         let s0 = self.deeper(down);
@@ -116,7 +119,7 @@ impl State {
             return Ok((s1, (level, row)));
         }
         if 32 <= s1.conversions {
-            return Err(s1.refused(refusals::CONVERSIONS));
+            return Err(s1.refused(Refusal::Conversions));
         }
         let s2 = s1.converting(s1.conversions + 1);
         ended(s2.sort(down, rows, cells, d, g, t, ty, row))
@@ -139,7 +142,7 @@ impl State {
     {
         let (s, (normal, typed)) = self.expose(left, rows, cells, d, g, t, ty, row)?;
         let Shape::Universe(level) = shape_of(cells, normal) else {
-            return Err(s.refused(refusals::NO_TYPE));
+            return Err(s.refused(Refusal::NoType));
         };
         Ok((s, (level, typed)))
     }
@@ -159,7 +162,7 @@ impl State {
         ensures { end result rows.new cells.new ≡ (callees left).check d g t expected (machine rows.old cells.old self) }
     {
         if left == 0 {
-            return Err(self.refused(refusals::NESTING));
+            return Err(self.refused(Refusal::Nesting));
         }
         let down = left - 1;
         let s0 = self.deeper(down);
@@ -168,7 +171,7 @@ impl State {
             return Ok((s1, row));
         }
         if 32 <= s1.conversions {
-            return Err(s1.refused(refusals::CONVERSIONS));
+            return Err(s1.refused(Refusal::Conversions));
         }
         let s2 = s1.converting(s1.conversions + 1);
         ended(s2.conv(down, rows, cells, d, g, t, actual, expected, row))
@@ -193,9 +196,9 @@ impl State {
         let (s1, (i, _)) = self.universe(left, rows, cells, d, g, actual)?;
         let (s2, (j, formed)) = s1.universe(left, rows, cells, d, g, expected)?;
         if i != j {
-            return Err(s2.refused(refusals::LEVELS));
+            return Err(s2.refused(Refusal::Levels));
         }
-        let (s3, u) = s2.prepare(left, rows, cells, kinds::UNIVERSE, i, 0)?;
+        let (s3, u) = s2.prepare(left, rows, cells, Node::new(Kind::Universe, i, 0, 0))?;
         let (s4, equality) = s3.equal(left, rows, cells, d, g, actual, expected, u)?;
         s4.emit_has(
             rows,
@@ -219,16 +222,16 @@ impl State {
         d: u32,
         g: u32,
         t: u32,
-        kind: u32,
+        kind: Kind,
     ) -> Answer<(u32, u32)>
-        ensures { end result rows.new cells.new ≡ headed (callees left) kind d g t (machine rows.old cells.old self) }
+        ensures { end result rows.new cells.new ≡ headed (callees left) (kind_number kind) d g t (machine rows.old cells.old self) }
     {
         let (s1, (ty, row)) = self.infer(left, rows, cells, d, g, t)?;
-        if read(cells, ty).kind == kind {
+        if read(cells, ty).kind == kind.number() {
             return Ok((s1, (ty, row)));
         }
         if 32 <= s1.conversions {
-            return Err(s1.refused(refusals::CONVERSIONS));
+            return Err(s1.refused(Refusal::Conversions));
         }
         let s2 = s1.converting(s1.conversions + 1);
         ended(s2.expose(left, rows, cells, d, g, t, ty, row))
@@ -248,7 +251,7 @@ impl State {
         ensures { end result rows.new cells.new ≡ (callees left).infer d g t (machine rows.old cells.old self) }
     {
         if left == 0 {
-            return Err(self.refused(refusals::NESTING));
+            return Err(self.refused(Refusal::Nesting));
         }
         let down = left - 1;
         let s0 = self.deeper(down);
@@ -277,23 +280,23 @@ impl State {
         ensures { end_found result rows.new cells.new ≡ find (callees left) d g t (machine rows.old cells.old self) }
     {
         let cell = read(cells, t);
-        match cell.kind {
-            kinds::UNIVERSE => {
+        match Kind::of(cell.kind) {
+            Kind::Universe => {
                 let up = cell.a.wrapping_add(1);
-                self.atom(left, rows, cells, d, g, kinds::UNIVERSE, up, Rule::TypeU)
+                self.atom(left, rows, cells, d, g, Kind::Universe, up, Rule::TypeU)
             }
-            kinds::VAR => self.var(left, rows, cells, d, g, cell.a),
-            kinds::NAT => self.atom(left, rows, cells, d, g, kinds::UNIVERSE, 0, Rule::TypeNat),
-            kinds::ZERO => self.atom(left, rows, cells, d, g, kinds::NAT, 0, Rule::TypeZero),
-            kinds::PI => self.pi(left, rows, cells, d, g, cell.a, cell.b, Rule::TypePi),
-            kinds::LAM => self.lam(left, rows, cells, d, g, cell.a, cell.b),
-            kinds::APP => self.app(left, rows, cells, d, g, cell.a, cell.b),
-            kinds::PATH => self.path(left, rows, cells, d, g, cell.a, cell.b, cell.c),
-            kinds::PLAM => self.plam(left, rows, cells, d, g, cell.a, cell.b),
-            kinds::SIGMA => self.pi(left, rows, cells, d, g, cell.a, cell.b, Rule::TypeSigma),
-            kinds::PAIR => self.pair(left, rows, cells, d, g, cell.a, cell.b, cell.c),
-            kinds::FST => self.fst(left, rows, cells, d, g, cell.a),
-            kinds::SND => self.snd(left, rows, cells, d, g, cell.a),
+            Kind::Var => self.var(left, rows, cells, d, g, cell.a),
+            Kind::Nat => self.atom(left, rows, cells, d, g, Kind::Universe, 0, Rule::TypeNat),
+            Kind::Zero => self.atom(left, rows, cells, d, g, Kind::Nat, 0, Rule::TypeZero),
+            Kind::Pi => self.pi(left, rows, cells, d, g, cell.a, cell.b, Rule::TypePi),
+            Kind::Lam => self.lam(left, rows, cells, d, g, cell.a, cell.b),
+            Kind::App => self.app(left, rows, cells, d, g, cell.a, cell.b),
+            Kind::Path => self.path(left, rows, cells, d, g, cell.a, cell.b, cell.c),
+            Kind::Plam => self.plam(left, rows, cells, d, g, cell.a, cell.b),
+            Kind::Sigma => self.pi(left, rows, cells, d, g, cell.a, cell.b, Rule::TypeSigma),
+            Kind::Pair => self.pair(left, rows, cells, d, g, cell.a, cell.b, cell.c),
+            Kind::Fst => self.fst(left, rows, cells, d, g, cell.a),
+            Kind::Snd => self.snd(left, rows, cells, d, g, cell.a),
             _ => self.papp(left, rows, cells, d, g, cell.a, cell.b),
         }
     }
@@ -307,14 +310,14 @@ impl State {
         cells: &mut [u32],
         d: u32,
         g: u32,
-        kind: u32,
+        kind: Kind,
         n: u32,
         rule: Rule,
     ) -> Answer<Inferred>
-        ensures { end_found result rows.new cells.new ≡ find_atom (callees left) d g kind n (rule_number rule) (machine rows.old cells.old self) }
+        ensures { end_found result rows.new cells.new ≡ find_atom (callees left) d g (kind_number kind) n (rule_number rule) (machine rows.old cells.old self) }
     {
         let (s1, x) = self.ctx(left, rows, cells, d, g)?;
-        let (s2, ty) = s1.intern(rows, cells, kind, n, 0, 0)?;
+        let (s2, ty) = s1.intern(rows, cells, Node::new(kind, n, 0, 0))?;
         Ok((s2, (ty, cite([x]), rule)))
     }
 
@@ -352,11 +355,11 @@ impl State {
         ensures { end_found result rows.new cells.new ≡ find_binder (callees left) d g a b (rule_number rule) (machine rows.old cells.old self) }
     {
         let (s1, (i, x)) = self.universe(left, rows, cells, d, g, a)?;
-        let (s2, h) = s1.prepare(left, rows, cells, kinds::CONS, a, g)?;
+        let (s2, h) = s1.prepare(left, rows, cells, Node::new(Kind::Cons, a, g, 0))?;
         let (s3, (j, y)) = s2.universe(left, rows, cells, d, h, b)?;
         let (s4, z) = s3.max(left, rows, cells, i, j)?;
         let top = i.max(j);
-        let (s5, ty) = s4.intern(rows, cells, kinds::UNIVERSE, top, 0, 0)?;
+        let (s5, ty) = s4.intern(rows, cells, Node::new(Kind::Universe, top, 0, 0))?;
         Ok((s5, (ty, cite([x, y, z]), rule)))
     }
 
@@ -375,11 +378,12 @@ impl State {
         ensures { end_found result rows.new cells.new ≡ find_lam (callees left) d g a body (machine rows.old cells.old self) }
     {
         let (s1, (_, x)) = self.universe(left, rows, cells, d, g, a)?;
-        let (s2, h) = s1.prepare(left, rows, cells, kinds::CONS, a, g)?;
+        let context = Node::new(Kind::Cons, a, g, 0);
+        let (s2, h) = s1.prepare(left, rows, cells, context)?;
         let (s3, (b, y)) = s2.infer(left, rows, cells, d, h, body)?;
-        let (s4, k) = s3.prepare(left, rows, cells, kinds::CONS, a, g)?;
+        let (s4, k) = s3.prepare(left, rows, cells, context)?;
         let (s5, (_, z)) = s4.universe(left, rows, cells, d, k, b)?;
-        let (s6, ty) = s5.intern(rows, cells, kinds::PI, a, b, 0)?;
+        let (s6, ty) = s5.intern(rows, cells, Node::new(Kind::Pi, a, b, 0))?;
         Ok((s6, (ty, cite([x, y, z]), Rule::TypeLam)))
     }
 
@@ -397,9 +401,9 @@ impl State {
     ) -> Answer<Inferred>
         ensures { end_found result rows.new cells.new ≡ find_app (callees left) d g f a (machine rows.old cells.old self) }
     {
-        let (s1, (pi, x)) = self.head(left, rows, cells, d, g, f, kinds::PI)?;
+        let (s1, (pi, x)) = self.head(left, rows, cells, d, g, f, Kind::Pi)?;
         let Shape::Pi(domain, codomain) = shape_of(cells, pi) else {
-            return Err(s1.refused(refusals::NO_FUNCTION));
+            return Err(s1.refused(Refusal::NoFunction));
         };
         let (s2, y) = s1.check(left, rows, cells, d, g, a, domain)?;
         let (s3, (out, z)) = s2.transform(left, rows, cells, codomain, Op::Subst(0, a))?;
@@ -417,9 +421,9 @@ impl State {
     ) -> Answer<(u32, u32, u32, u32)>
         ensures { end result rows.new cells.new ≡ ends (callees left) t (machine rows.old cells.old self) }
     {
-        let (s1, i0) = self.prepare(left, rows, cells, kinds::I0, 0, 0)?;
+        let (s1, i0) = self.prepare(left, rows, cells, Node::new(Kind::I0, 0, 0, 0))?;
         let (s2, (low, x)) = s1.transform(left, rows, cells, t, Op::DSubst(0, i0))?;
-        let (s3, i1) = s2.prepare(left, rows, cells, kinds::I1, 0, 0)?;
+        let (s3, i1) = s2.prepare(left, rows, cells, Node::new(Kind::I1, 0, 0, 0))?;
         let (s4, (high, y)) = s3.transform(left, rows, cells, t, Op::DSubst(0, i1))?;
         Ok((s4, (low, high, x, y)))
     }
@@ -446,7 +450,7 @@ impl State {
         let (s4, (low, high, x3, x4)) = s3.ends(left, rows, cells, a)?;
         let (s5, x5) = s4.check(left, rows, cells, d, g, b, low)?;
         let (s6, x6) = s5.check(left, rows, cells, d, g, c, high)?;
-        let (s7, ty) = s6.intern(rows, cells, kinds::UNIVERSE, level, 0, 0)?;
+        let (s7, ty) = s6.intern(rows, cells, Node::new(Kind::Universe, level, 0, 0))?;
         Ok((s7, (ty, cite([x0, x1, x2, x3, x4, x5, x6]), Rule::TypePath)))
     }
 
@@ -473,7 +477,7 @@ impl State {
         let (s6, (t0, t1, x6, x7)) = s5.ends(left, rows, cells, body)?;
         let (s7, x8) = s6.check(left, rows, cells, d, g, t0, a0)?;
         let (s8, x9) = s7.check(left, rows, cells, d, g, t1, a1)?;
-        let (s9, ty) = s8.intern(rows, cells, kinds::PATH, a, t0, t1)?;
+        let (s9, ty) = s8.intern(rows, cells, Node::new(Kind::Path, a, t0, t1))?;
         Ok((
             s9,
             (
@@ -498,9 +502,9 @@ impl State {
     ) -> Answer<Inferred>
         ensures { end_found result rows.new cells.new ≡ find_papp (callees left) d g p r (machine rows.old cells.old self) }
     {
-        let (s1, (path, x)) = self.head(left, rows, cells, d, g, p, kinds::PATH)?;
+        let (s1, (path, x)) = self.head(left, rows, cells, d, g, p, Kind::Path)?;
         let Shape::Path(family, _, _) = shape_of(cells, path) else {
-            return Err(s1.refused(refusals::NO_PATH));
+            return Err(s1.refused(Refusal::NoPath));
         };
         let (s2, y) = s1.interval(left, rows, cells, d, r)?;
         let (s3, (out, z)) = s2.transform(left, rows, cells, family, Op::DSubst(0, r))?;
@@ -524,14 +528,14 @@ impl State {
         ensures { end_found result rows.new cells.new ≡ find_pair (callees left) d g ty a b (machine rows.old cells.old self) }
     {
         let Shape::Sigma(ta, tb) = shape_of(cells, ty) else {
-            return Err(self.refused(refusals::ANNOTATION));
+            return Err(self.refused(Refusal::Annotation));
         };
         let (s1, (_, x0)) = self.universe(left, rows, cells, d, g, ta)?;
-        let (s2, h) = s1.prepare(left, rows, cells, kinds::CONS, ta, g)?;
+        let (s2, h) = s1.prepare(left, rows, cells, Node::new(Kind::Cons, ta, g, 0))?;
         let (s3, (level, x1)) = s2.universe(left, rows, cells, d, h, tb)?;
         let (s4, x2) = s3.check(left, rows, cells, d, g, a, ta)?;
         let (s5, (out, x3)) = s4.transform(left, rows, cells, tb, Op::Subst(0, a))?;
-        let (s6, u) = s5.prepare(left, rows, cells, kinds::UNIVERSE, level, 0)?;
+        let (s6, u) = s5.prepare(left, rows, cells, Node::new(Kind::Universe, level, 0, 0))?;
         let (s7, x4) = s6.check(left, rows, cells, d, g, out, u)?;
         let (s8, x5) = s7.check(left, rows, cells, d, g, b, out)?;
         Ok((s8, (ty, cite([x0, x1, x2, x3, x4, x5]), Rule::TypePair)))
@@ -550,9 +554,9 @@ impl State {
     ) -> Answer<Inferred>
         ensures { end_found result rows.new cells.new ≡ find_fst (callees left) d g p (machine rows.old cells.old self) }
     {
-        let (s1, (sigma, x)) = self.head(left, rows, cells, d, g, p, kinds::SIGMA)?;
+        let (s1, (sigma, x)) = self.head(left, rows, cells, d, g, p, Kind::Sigma)?;
         let Shape::Sigma(ta, _) = shape_of(cells, sigma) else {
-            return Err(s1.refused(refusals::NO_SIGMA));
+            return Err(s1.refused(Refusal::NoSigma));
         };
         let (s2, (_, y)) = s1.universe(left, rows, cells, d, g, ta)?;
         Ok((s2, (ta, cite([x, y]), Rule::TypeFst)))
@@ -571,11 +575,11 @@ impl State {
     ) -> Answer<Inferred>
         ensures { end_found result rows.new cells.new ≡ find_snd (callees left) d g p (machine rows.old cells.old self) }
     {
-        let (s1, (sigma, x)) = self.head(left, rows, cells, d, g, p, kinds::SIGMA)?;
+        let (s1, (sigma, x)) = self.head(left, rows, cells, d, g, p, Kind::Sigma)?;
         let Shape::Sigma(_, tb) = shape_of(cells, sigma) else {
-            return Err(s1.refused(refusals::NO_SIGMA));
+            return Err(s1.refused(Refusal::NoSigma));
         };
-        let (s2, first) = s1.prepare(left, rows, cells, kinds::FST, p, 0)?;
+        let (s2, first) = s1.prepare(left, rows, cells, Node::new(Kind::Fst, p, 0, 0))?;
         let (s3, (out, y)) = s2.transform(left, rows, cells, tb, Op::Subst(0, first))?;
         let (s4, (_, z)) = s3.universe(left, rows, cells, d, g, out)?;
         Ok((s4, (out, cite([x, y, z]), Rule::TypeSnd)))

@@ -28,7 +28,7 @@ impl Table<'_> {
     pub fn cell_word(&self, i: u32, w: u32) -> u32
         ensures { result ≡ cell_word self.now.cells.now i w }
     {
-        word(self.cells, (i as usize) * 8 + w as usize)
+        ast::cells::cell_word(self.cells, i, w)
     }
 
     // The quote of a cell. It ends where all that was asked for is there, so that a long text costs no more than that.

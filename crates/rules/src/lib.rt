@@ -9,6 +9,8 @@ ghost use Rattle.rules.specs.Names.{name_of};
 ghost use Rattle.walk.specs.Rule.{kind_of};
 ghost use Rattle.rules.specs.Kinds.{sorts_of, sort_of, parts_of, part_of};
 
+use crate::tables::{JUDGMENTS, NO_JUDGMENT, NO_NODE, NO_RULE, NODES, RULES};
+
 // What has a name: a rule, a judgment by its kind, a node of a term, an interval or a context by its kind.
 #[derive(Clone, Copy)]
 pub enum Name {
@@ -45,14 +47,14 @@ fn entry<T: Copy>(table: &[T], n: u32, none: T) -> T
 pub fn rule_kind(rule: u32) -> u32
     ensures { result ≡ kind_of rule }
 {
-    entry(&tables::RULE_KINDS, rule, 255)
+    entry(&RULES, rule, NO_RULE).kind
 }
 
 // The sorts of a judgment's arguments; none where there is no such kind.
 pub fn sorts(kind: u32) -> &'static [Sort]
     ensures { result.now ≡ sorts_of kind }
 {
-    entry(&tables::JUDGMENT_SORTS, kind, &[])
+    entry(&JUDGMENTS, kind, NO_JUDGMENT).sorts
 }
 
 // The sort of a judgment's argument, counted from 0; none past the last.
@@ -67,7 +69,7 @@ pub fn argument_sort(kind: u32, n: u32) -> Option<Sort>
 pub fn parts(kind: u32) -> &'static [Part]
     ensures { result.now ≡ parts_of kind }
 {
-    entry(&tables::NODE_PARTS, kind, &[])
+    entry(&NODES, kind, NO_NODE).parts
 }
 
 // The part that a node's quote shows at a place, counted from 0; none past the last.
@@ -84,9 +86,9 @@ impl Name {
         ensures { result.now ≡ name_of self }
     {
         match self {
-            Name::Rule(n) => entry(&tables::RULE_NAMES, n, b""),
-            Name::Judgment(kind) => entry(&tables::JUDGMENT_NAMES, kind, b""),
-            Name::Node(kind) => entry(&tables::NODE_NAMES, kind, b""),
+            Name::Rule(n) => entry(&RULES, n, NO_RULE).name,
+            Name::Judgment(kind) => entry(&JUDGMENTS, kind, NO_JUDGMENT).name,
+            Name::Node(kind) => entry(&NODES, kind, NO_NODE).name,
         }
     }
 }

@@ -10,7 +10,7 @@ use Rattle.ast.specs.Words.{up}
 use Rattle.std.specs.Prelude.{Ok, Err}
 use Rattle.producer.specs.Answers.{Answer, end}
 use Rattle.producer.specs.Machine.{Machine, give, stop}
-pub use Rattle.producer.proofs.At.{residual}
+pub use Rattle.producer.proofs.At.{residual, node}
 use Rattle.run.specs.Run.{Told, told, turn_end, answered_of, turned, played}
 use Rattle.run.specs.Build.{built_body, built, scoped, scoped_body}
 

@@ -1,7 +1,9 @@
 -- What is sent becomes cells, over the bytes of the run: parts first, the left one first. A term is the number of its cell.
-use Rattle.std.specs.Prelude.{ℕ, zero, suc, List, eqb, get_or}
+use Rattle.std.specs.Prelude.{ℕ, zero, suc, List, eqb, get_or, Option, Some, None}
 use Rattle.walk.specs.Refusal as Refusal
 use Rattle.ast.specs.Words.{ifb, up}
+use Rattle.run.specs.declared.build.Follows.{Follows}
+use Rattle.run.specs.declared.build.Follows.TheVariants.{Nothing, Number, One, Two, Three}
 use Rattle.producer.specs.Machine.{W, ◌>>=◌, give, stop, when◌then◌else◌, intern}
 
 abbrev pub byte_at : List ℕ → ℕ → ℕ
@@ -13,6 +15,18 @@ unfoldable pub parts_of : ℕ → ℕ
 parts_of k = ifb (eqb k 1) 2 (ifb (eqb k 2) 2 (ifb (eqb k 3) 1 (ifb (eqb k 4) 1 (ifb (eqb k 5) 4 (ifb (eqb k 6) 4 (ifb (eqb k 7) 4 (ifb (eqb k 8) 5 (ifb (eqb k 9) 4 (ifb (eqb k 10) 4 (ifb (eqb k 11) 4 (ifb (eqb k 12) 5 (ifb (eqb k 13) 3 (ifb (eqb k 14) 3 (ifb (eqb k 16) 1 (ifb (eqb k 17) 1 (ifb (eqb k 18) 2 (ifb (eqb k 19) 3 (ifb (eqb k 20) 4 (ifb (eqb k 21) 4 0)))))))))))))))))))
 
 -- end of what follows a kind
+
+-- the numbers of the program's answers to that
+abbrev pub number_of : Follows → ℕ
+number_of Nothing = 1
+number_of Number = 2
+number_of One = 3
+number_of Two = 4
+number_of Three = 5
+
+unfoldable pub follows_number : Option Follows → ℕ
+follows_number None = 0
+follows_number (Some f) = number_of f
 
 -- a cell with the offset past its bytes
 unfoldable pub made : ℕ → W ℕ → W (ℕ × ℕ)

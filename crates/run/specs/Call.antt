@@ -6,7 +6,6 @@ use Rattle.producer.specs.Callees.{prepared}
 use Rattle.producer.specs.Calls.{callees}
 use Rattle.walk.specs.Reader.{c_context, c_universe, c_infer, c_check, c_normalise}
 use Rattle.syntax.specs.declared.scan.CallHead.{CallHead}
-use Rattle.syntax.specs.declared.calls.Code.{Code}
 use Rattle.syntax.specs.Told.{code_number, code_of}
 use Rattle.run.specs.Build.{built, scoped}
 
@@ -32,23 +31,23 @@ with_sides left bytes at d g a b = do
   row_alone ((callees left).equal d g a b ty)
 
 -- check, normalise or equal: the first term is made
-unfoldable pub with_term : ℕ → List ℕ → (at : ℕ) (code : Code) (d g t : ℕ) → W (ℕ × ℕ)
+unfoldable pub with_term : ℕ → List ℕ → (at code d g t : ℕ) → W (ℕ × ℕ)
 with_term left bytes at code d g t = do
   (u, next) ← built 33 bytes at
-  when eqb (code_number (code_of code)) (code_number c_check) then row_alone ((callees left).check d g t u)
+  when eqb code (code_number c_check) then row_alone ((callees left).check d g t u)
       else
-      (when eqb (code_number (code_of code)) (code_number c_normalise) then row_quoted ((callees left).normalize d g t u)
+      (when eqb code (code_number c_normalise) then row_quoted ((callees left).normalize d g t u)
       else with_sides left bytes next d g t u)
 
 -- the function of a code, whose terms start at an offset
-unfoldable pub by_code : ℕ → List ℕ → (at : ℕ) (code : Code) (d g : ℕ) → W (ℕ × ℕ)
+unfoldable pub by_code : ℕ → List ℕ → (at code d g : ℕ) → W (ℕ × ℕ)
 by_code left bytes at code d g =
-    when eqb (code_number (code_of code)) (code_number c_context) then row_alone ((callees left).ctx d g)
+    when eqb code (code_number c_context) then row_alone ((callees left).ctx d g)
     else (do
       (t, next) ← built 33 bytes at
-      when eqb (code_number (code_of code)) (code_number c_universe) then row_first ((callees left).universe d g t)
+      when eqb code (code_number c_universe) then row_first ((callees left).universe d g t)
           else
-          (when eqb (code_number (code_of code)) (code_number c_infer) then row_quoted ((callees left).infer d g t)
+          (when eqb code (code_number c_infer) then row_quoted ((callees left).infer d g t)
           else with_term left bytes next code d g t))
 
 -- the function is entered, then its arguments are made: the context first, whose types start at an offset
@@ -56,7 +55,7 @@ unfoldable pub with_context : ℕ → List ℕ → ℕ → CallHead → W (ℕ �
 with_context left bytes at head = do
   nil ← prepared (callees left) (intern 32 0 0 0)
   (g, terms) ← scoped head.size bytes at nil
-  by_code left bytes terms head.code head.dims g
+  by_code left bytes terms (code_number (code_of head.code)) head.dims g
 
 -- the call at an offset, which has this head; the whole limit is left
 unfoldable pub called : List ℕ → ℕ → CallHead → W (ℕ × ℕ)

@@ -2,6 +2,7 @@
 use Rattle.std.specs.Prelude.{ℕ, zero, suc, ◌+◌, ◌*◌, ◌/◌, ◌%◌, List, [], ◌∷◌, ltb, length, Result as Outcome, Ok, Err}
 use Rattle.std.proofs.lemmas.List.Edits.{sets}
 use Rattle.walk.specs.Refusal as Refusal
+use Rattle.ast.specs.Refusals.{refusal_number}
 use Rattle.ast.specs.Words.{ifb, up}
 use Rattle.producer.specs.declared.State.{State}
 use Rattle.producer.specs.Answers.{Answer}
@@ -11,7 +12,7 @@ use Rattle.syntax.specs.declared.limits.Unfit.{Unfit}
 use Rattle.syntax.specs.declared.limits.Unfit.TheVariants.{Refused, Unread}
 use Rattle.syntax.specs.declared.scan.Unread.TheVariants.{Bad, Short}
 use Rattle.syntax.specs.declared.scan.Scanned.{Scanned}
-use Rattle.syntax.specs.declared.scan.Refusal.{Refusal as RefusedRun}
+use Rattle.syntax.specs.declared.scan.RefusedRun.{RefusedRun}
 use Rattle.syntax.specs.Told.{call_at, size_in, scanned}
 use Rattle.ran.specs.declared.Ran.{Ran}
 use Rattle.run.specs.declared.entry.Turn.{Turn}
@@ -45,7 +46,7 @@ refused_of s number next = record { state = s; number = number; row = 4294967295
 
 unfoldable pub answered_of : Answer (ℕ × ℕ) → ℕ → Turn
 answered_of (Ok (s, (row, result))) next = record { state = s; number = 0; row = row; result = result; deepest = s.deepest; next = next }
-answered_of (Err e) next = record { state = e.state; number = e.number; row = 4294967295; result = 0; deepest = e.state.deepest; next = next }
+answered_of (Err e) next = record { state = e.state; number = refusal_number e.refusal; row = 4294967295; result = 0; deepest = e.state.deepest; next = next }
 
 unfoldable pub told : Result (ℕ × ℕ) → ℕ → Told
 told (is a w) next = record { number = 0; row = a.0; result = a.1; deepest = w.state.deepest; next = next; left = w }
@@ -54,7 +55,7 @@ told (not e w) next = record { number = e; row = 4294967295; result = 0; deepest
 -- a call of a size: in a run that was read, none is bad or short
 unfoldable pub turned_by : Outcome Fitting Unfit → List ℕ → ℕ → Machine → Told
 turned_by (Ok fitting) bytes at w = told (called bytes (low_of at) fitting.head (machine w.rows w.cells (fresh w.state))) fitting.next
-turned_by (Err (Refused number next)) bytes at w = turn_end (refused_of w.state number next) w.rows w.cells
+turned_by (Err (Refused why next)) bytes at w = turn_end (refused_of w.state (refusal_number why) next) w.rows w.cells
 turned_by (Err (Unread (Bad place))) bytes at w = turn_end (refused_of w.state Refusal.unread place) w.rows w.cells
 turned_by (Err (Unread Short)) bytes at w = turn_end (refused_of w.state Refusal.unread at) w.rows w.cells
 
@@ -94,7 +95,7 @@ read_run calls p = end_run (record { number = 0; place = 0; calls = calls; rows 
 
 -- the stack of the reader has 131,073 bytes
 unfoldable pub run_by : Outcome Scanned RefusedRun → List ℕ → List ℕ → List ℕ → List ℕ → Ended
-run_by (Err refused) bytes R C A = end_run (refused_run refused.number refused.place) R C A
+run_by (Err refused) bytes R C A = end_run (refused_run (refusal_number refused.refusal) refused.place) R C A
 run_by (Ok scanned) bytes R C A =
     ifb (ltb (length A / 4) scanned.calls) (end_run (refused_run Refusal.answers 0) R C A)
     (read_run (low_of scanned.calls) (played (low_of scanned.calls) 131073 bytes 2 0 (machine R C (started scanned.limit (length R) (length C))) A))

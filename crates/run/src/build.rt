@@ -4,58 +4,63 @@
 ghost use Rattle.std.specs.Prelude.{◌≡◌};
 ghost use Rattle.producer.specs.Answers.{end};
 ghost use Rattle.producer.specs.Machine.{machine};
-ghost use Rattle.run.specs.Build.{byte_at, parts_of, built, built_one, built_two, built_three, scoped};
+ghost use Rattle.run.specs.Build.{byte_at, follows_number, parts_of, built, built_one, built_two, built_three, scoped};
 
-use ast::{kinds, refusals};
+use ast::cells::Node;
+use ast::kinds::Kind;
+use ast::refusals::Refusal;
 use producer::State;
 use producer::answers::Answer;
 
 // The deepest that a term nests, counted from 1.
 pub const DEPTH: u32 = 33;
 
-pub(crate) fn wide(x: u8) -> u32
-    ensures { result ≡ x }
-{
-    x as u32
-}
-
 // The byte at `at`, and 0 past the end.
 pub fn byte(bytes: &[u8], at: u32) -> u32
     ensures { result ≡ byte_at bytes.now at }
 {
     let i = at as usize;
-    if i < bytes.len() { wide(bytes[i]) } else { 0 }
+    bytes.get(i).copied().map_or(0, u32::from)
 }
 
-// What follows a kind's byte: 1 nothing, 2 a number, 3 one part, 4 two parts, 5 three parts; 0 for no kind.
-#[tactic(auto, unfolding(crate::specs::Build::parts_of))]
-pub fn parts(kind: u32) -> u32
-    ensures { result ≡ parts_of kind }
+// What follows the byte of a kind: nothing, a number, or parts.
+#[derive(Clone, Copy, Debug, PartialEq, Eq)]
+pub enum Follows {
+    Nothing = 1,
+    Number = 2,
+    One = 3,
+    Two = 4,
+    Three = 5,
+}
+
+// What follows a byte that is a kind's, and nothing where it is not.
+pub fn parts(kind: u32) -> Option<Follows>
+    ensures { follows_number result ≡ parts_of kind }
 {
-    match kind {
+    match Kind::of(kind) {
         // written by tools/written.py: what follows a kind
-        kinds::UNIVERSE => 2,
-        kinds::VAR => 2,
-        kinds::NAT => 1,
-        kinds::ZERO => 1,
-        kinds::PI => 4,
-        kinds::LAM => 4,
-        kinds::APP => 4,
-        kinds::PATH => 5,
-        kinds::PLAM => 4,
-        kinds::PAPP => 4,
-        kinds::SIGMA => 4,
-        kinds::PAIR => 5,
-        kinds::FST => 3,
-        kinds::SND => 3,
-        kinds::I0 => 1,
-        kinds::I1 => 1,
-        kinds::DIM => 2,
-        kinds::NEG => 3,
-        kinds::MEET => 4,
-        kinds::JOIN => 4,
+        Kind::Universe => Some(Follows::Number),
+        Kind::Var => Some(Follows::Number),
+        Kind::Nat => Some(Follows::Nothing),
+        Kind::Zero => Some(Follows::Nothing),
+        Kind::Pi => Some(Follows::Two),
+        Kind::Lam => Some(Follows::Two),
+        Kind::App => Some(Follows::Two),
+        Kind::Path => Some(Follows::Three),
+        Kind::Plam => Some(Follows::Two),
+        Kind::Papp => Some(Follows::Two),
+        Kind::Sigma => Some(Follows::Two),
+        Kind::Pair => Some(Follows::Three),
+        Kind::Fst => Some(Follows::One),
+        Kind::Snd => Some(Follows::One),
+        Kind::I0 => Some(Follows::Nothing),
+        Kind::I1 => Some(Follows::Nothing),
+        Kind::Dim => Some(Follows::Number),
+        Kind::Neg => Some(Follows::One),
+        Kind::Meet => Some(Follows::Two),
+        Kind::Join => Some(Follows::Two),
         // end of what follows a kind
-        _ => 0,
+        _ => None,
     }
 }
 
@@ -72,24 +77,26 @@ pub fn build(
     ensures { end result rows.now cells.new ≡ built left bytes.now at (machine rows.now cells.old state) }
 {
     if left == 0 {
-        return Err(state.refused(refusals::UNREAD));
+        return Err(state.refused(Refusal::Unread));
     }
     let down = left - 1;
     let kind = byte(bytes, at);
     let next = at.wrapping_add(1);
     match parts(kind) {
-        1 => {
-            let (s, cell) = state.intern(rows, cells, kind, 0, 0, 0)?;
+        Some(Follows::Nothing) => {
+            let node = Node::of_words(kind, 0, 0, 0);
+            let (s, cell) = state.intern(rows, cells, node)?;
             Ok((s, (cell, next)))
         }
-        2 => {
-            let (s, cell) = state.intern(rows, cells, kind, byte(bytes, next), 0, 0)?;
+        Some(Follows::Number) => {
+            let node = Node::of_words(kind, byte(bytes, next), 0, 0);
+            let (s, cell) = state.intern(rows, cells, node)?;
             Ok((s, (cell, next.wrapping_add(1))))
         }
-        3 => one(state, down, bytes, next, rows, cells, kind),
-        4 => two(state, down, bytes, next, rows, cells, kind),
-        5 => three(state, down, bytes, next, rows, cells, kind),
-        _ => Err(state.refused(refusals::UNREAD)),
+        Some(Follows::One) => one(state, down, bytes, next, rows, cells, kind),
+        Some(Follows::Two) => two(state, down, bytes, next, rows, cells, kind),
+        Some(Follows::Three) => three(state, down, bytes, next, rows, cells, kind),
+        None => Err(state.refused(Refusal::Unread)),
     }
 }
 
@@ -107,7 +114,7 @@ pub fn one(
     ensures { end result rows.now cells.new ≡ built_one (built left bytes.now) at kind (machine rows.now cells.old state) }
 {
     let (s1, (a, next)) = build(state, left, bytes, at, rows, cells)?;
-    let (s, cell) = s1.intern(rows, cells, kind, a, 0, 0)?;
+    let (s, cell) = s1.intern(rows, cells, Node::of_words(kind, a, 0, 0))?;
     Ok((s, (cell, next)))
 }
 
@@ -126,7 +133,7 @@ pub fn two(
 {
     let (s1, (a, middle)) = build(state, left, bytes, at, rows, cells)?;
     let (s2, (b, next)) = build(s1, left, bytes, middle, rows, cells)?;
-    let (s, cell) = s2.intern(rows, cells, kind, a, b, 0)?;
+    let (s, cell) = s2.intern(rows, cells, Node::of_words(kind, a, b, 0))?;
     Ok((s, (cell, next)))
 }
 
@@ -146,7 +153,7 @@ pub fn three(
     let (s1, (a, second)) = build(state, left, bytes, at, rows, cells)?;
     let (s2, (b, third)) = build(s1, left, bytes, second, rows, cells)?;
     let (s3, (c, next)) = build(s2, left, bytes, third, rows, cells)?;
-    let (s, cell) = s3.intern(rows, cells, kind, a, b, c)?;
+    let (s, cell) = s3.intern(rows, cells, Node::of_words(kind, a, b, c))?;
     Ok((s, (cell, next)))
 }
 
@@ -167,6 +174,6 @@ pub fn scope(
     }
     let down = left - 1;
     let (s1, (a, next)) = build(state, DEPTH, bytes, at, rows, cells)?;
-    let (s2, h) = s1.intern(rows, cells, kinds::CONS, a, g, 0)?;
+    let (s2, h) = s1.intern(rows, cells, Node::new(Kind::Cons, a, g, 0))?;
     scope(s2, down, bytes, next, rows, cells, h)
 }

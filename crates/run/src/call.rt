@@ -5,9 +5,9 @@ ghost use Rattle.producer.specs.Answers.{end};
 ghost use Rattle.producer.specs.Machine.{machine};
 ghost use Rattle.run.specs.Call.{with_term, with_sides, by_code, with_context, called};
 
-use crate::build::{DEPTH, build, scope, wide};
-use ast::cells::quote;
-use ast::kinds::NIL;
+use crate::build::{DEPTH, build, scope};
+use ast::cells::{Node, quote};
+use ast::kinds::Kind;
 use producer::State;
 use producer::answers::Answer;
 use syntax::{CallHead, Code};
@@ -45,8 +45,8 @@ pub fn enter_context(
 ) -> Answer<(u32, u32)>
     ensures { end result rows.new cells.new ≡ with_context left bytes.now at head (machine rows.old cells.old state) }
 {
-    let (s1, nil) = state.prepare(left, rows, cells, NIL, 0, 0)?;
-    let (s2, (g, terms)) = scope(s1, wide(head.size), bytes, at, rows, cells, nil)?;
+    let (s1, nil) = state.prepare(left, rows, cells, Node::new(Kind::Nil, 0, 0, 0))?;
+    let (s2, (g, terms)) = scope(s1, u32::from(head.size), bytes, at, rows, cells, nil)?;
     enter(
         s2,
         left,
@@ -54,13 +54,13 @@ pub fn enter_context(
         terms,
         rows,
         cells,
-        head.code,
-        wide(head.dims),
+        head.code.number(),
+        u32::from(head.dims),
         g,
     )
 }
 
-// Enters the function of a code; its terms start at `at`.
+// Enters the function of a code, which a byte may be or not; its terms start at `at`.
 #[tactic(auto, unfolding(crate::specs::Call::by_code, crate::proofs::Steps::steps))]
 pub fn enter(
     state: State,
@@ -69,28 +69,26 @@ pub fn enter(
     at: u32,
     rows: &mut [u32],
     cells: &mut [u32],
-    code: Code,
+    code: u8,
     d: u32,
     g: u32,
 ) -> Answer<(u32, u32)>
     ensures { end result rows.new cells.new ≡ by_code left bytes.now at code d g (machine rows.old cells.old state) }
 {
-    if let Code::Context = code {
+    if code == Code::Context as u8 {
         let (s, row) = state.ctx(left, rows, cells, d, g)?;
         return Ok((s, (row, 0)));
     }
     let (s1, (t, next)) = build(state, DEPTH, bytes, at, rows, cells)?;
-    match code {
-        Code::Universe => {
-            let (s, (level, row)) = s1.universe(left, rows, cells, d, g, t)?;
-            Ok((s, (row, level)))
-        }
-        Code::Infer => {
-            let (s, (ty, row)) = s1.infer(left, rows, cells, d, g, t)?;
-            Ok((s, (row, quote(cells, ty))))
-        }
-        _ => enter_two(s1, left, bytes, next, rows, cells, code, d, g, t),
+    if code == Code::Universe as u8 {
+        let (s, (level, row)) = s1.universe(left, rows, cells, d, g, t)?;
+        return Ok((s, (row, level)));
     }
+    if code == Code::Infer as u8 {
+        let (s, (ty, row)) = s1.infer(left, rows, cells, d, g, t)?;
+        return Ok((s, (row, quote(cells, ty))));
+    }
+    enter_two(s1, left, bytes, next, rows, cells, code, d, g, t)
 }
 
 // A function of two terms or three, the first of which is made.
@@ -102,7 +100,7 @@ pub fn enter_two(
     at: u32,
     rows: &mut [u32],
     cells: &mut [u32],
-    code: Code,
+    code: u8,
     d: u32,
     g: u32,
     t: u32,
@@ -110,17 +108,15 @@ pub fn enter_two(
     ensures { end result rows.new cells.new ≡ with_term left bytes.now at code d g t (machine rows.old cells.old state) }
 {
     let (s1, (u, next)) = build(state, DEPTH, bytes, at, rows, cells)?;
-    match code {
-        Code::Check => {
-            let (s, row) = s1.check(left, rows, cells, d, g, t, u)?;
-            Ok((s, (row, 0)))
-        }
-        Code::Normalise => {
-            let (s, (normal, row)) = s1.normalize(left, rows, cells, d, g, t, u)?;
-            Ok((s, (row, quote(cells, normal))))
-        }
-        _ => enter_equal(s1, left, bytes, next, rows, cells, d, g, t, u),
+    if code == Code::Check as u8 {
+        let (s, row) = s1.check(left, rows, cells, d, g, t, u)?;
+        return Ok((s, (row, 0)));
     }
+    if code == Code::Normalise as u8 {
+        let (s, (normal, row)) = s1.normalize(left, rows, cells, d, g, t, u)?;
+        return Ok((s, (row, quote(cells, normal))));
+    }
+    enter_equal(s1, left, bytes, next, rows, cells, d, g, t, u)
 }
 
 // The last term is the type at which two are equal.

@@ -1,17 +1,18 @@
 // The entry: a run of bytes over the three lent slices. A run that is refused as a whole changes nothing; words past the used ones stay.
 ghost use Rattle.std.specs.Prelude.{◌≡◌, ◌*◌, [], ◌∷◌, length};
 ghost use Rattle.std.proofs.lemmas.List.Edits.{sets};
+ghost use Rattle.ast.specs.Refusals.{refusal_number};
 ghost use Rattle.producer.specs.Machine.{machine};
 ghost use Rattle.run.specs.Contract.{Runs};
 ghost use Rattle.run.specs.Run.{low_of, at_most, started, refused_of, answered_of, turn_end, turned, play_end, played, refused_run, end_run, run_of};
 
 use crate::call::call;
-use ast::refusals;
+use ast::refusals::Refusal;
 use ast::words::put_all;
 use producer::State;
 use producer::answers::{Answer, Refused};
 use ran::Ran;
-use syntax::{Unfit, Unread, scan_run, size_call};
+use syntax::{STACK, Unfit, Unread, scan_run, size_call};
 
 // The row of a refused call.
 const NO_ROW: u32 = 4294967295;
@@ -40,7 +41,7 @@ fn low(n: usize) -> u32
 fn cap(n: usize, most: u32) -> u32
     ensures { result ≡ at_most n most }
 {
-    if (most as usize) < n { most } else { low(n) }
+    u32::try_from(n).unwrap_or(most).min(most)
 }
 
 // Where a run starts from: no rows, cells or memory, in slices of so many words.
@@ -56,12 +57,12 @@ fn start(limit: usize, rows: usize, cells: usize) -> State
 
 // A call that is refused before the walk.
 #[tactic(auto, unfolding(crate::specs::Run::refused_of))]
-fn refused(state: State, number: u32, next: usize) -> Turn
-    ensures { result ≡ refused_of state number next }
+fn refused(state: State, refusal: Refusal, next: usize) -> Turn
+    ensures { result ≡ refused_of state (refusal_number refusal) next }
 {
     Turn {
         state,
-        number,
+        number: refusal.number(),
         row: NO_ROW,
         result: 0,
         deepest: 0,
@@ -83,9 +84,9 @@ fn answered(answer: Answer<(u32, u32)>, next: usize) -> Turn
             deepest: state.deepest,
             next,
         },
-        Err(Refused { state, number }) => Turn {
+        Err(Refused { state, refusal }) => Turn {
             state,
-            number,
+            number: refusal.number(),
             row: NO_ROW,
             result: 0,
             deepest: state.deepest,
@@ -115,9 +116,9 @@ fn step(
                 fitting.next,
             )
         }
-        Err(Unfit::Refused(number, next)) => refused(state, number, next),
-        Err(Unfit::Unread(Unread::Bad(place))) => refused(state, refusals::UNREAD, place),
-        Err(Unfit::Unread(Unread::Short)) => refused(state, refusals::UNREAD, at),
+        Err(Unfit::Refused(refusal, next)) => refused(state, refusal, next),
+        Err(Unfit::Unread(Unread::Bad(place))) => refused(state, Refusal::Unread, place),
+        Err(Unfit::Unread(Unread::Short)) => refused(state, Refusal::Unread, at),
     }
 }
 
@@ -154,11 +155,11 @@ fn play(
 
 // A run that is refused as a whole.
 #[tactic(auto, unfolding(crate::specs::Run::refused_run))]
-fn no_run(number: u32, place: usize) -> Ran
-    ensures { result ≡ refused_run number place }
+fn no_run(refusal: Refusal, place: usize) -> Ran
+    ensures { result ≡ refused_run (refusal_number refusal) place }
 {
     Ran {
-        number,
+        number: refusal.number(),
         place: low(place),
         calls: 0,
         rows: 0,
@@ -167,26 +168,26 @@ fn no_run(number: u32, place: usize) -> Ran
 }
 
 // Refusals 1 to 4 are found before anything is stored, the lowest first; then the calls are played.
-#[tactic(auto, unfolding(crate::specs::Run::run_of, crate::specs::Run::run_by, crate::specs::Run::read_run))]
+#[tactic(auto, unfolding(crate::specs::Run::run_of, crate::specs::Run::run_by, crate::specs::Run::read_run, ast::specs::Refusals::refusal_number))]
 fn play_run(bytes: &[u8], rows: &mut [u32], cells: &mut [u32], answers: &mut [u32]) -> Ran
     ensures { end_run result rows.new cells.new answers.new ≡ run_of bytes.now rows.old cells.old answers.old }
 {
     if rows.len() < 24 {
-        return no_run(refusals::SLICES, 0);
+        return no_run(Refusal::Slices, 0);
     }
     if cells.len() < 8 {
-        return no_run(refusals::SLICES, 0);
+        return no_run(Refusal::Slices, 0);
     }
     match scan_run(bytes) {
-        Err(refusal) => no_run(refusal.number, refusal.place),
+        Err(refused) => no_run(refused.refusal, refused.place),
         Ok(scanned) => {
             let most = answers.len() / 4;
             if most < scanned.calls {
-                return no_run(refusals::ANSWERS, 0);
+                return no_run(Refusal::Answers, 0);
             }
             let s = start(scanned.limit, rows.len(), cells.len());
             let count = low(scanned.calls);
-            let mut stack = [0u8; 131073];
+            let mut stack = [0u8; STACK];
             let last = play(s, count, bytes, &mut stack, rows, cells, answers);
             Ran {
                 number: 0,

@@ -3,22 +3,28 @@
 
 use std::alloc::AllocError;
 use std::{io, iter};
-use syntax::{Fitting, Refusal, Scanned, Unfit, Unread};
+use syntax::{Fitting, RefusedRun, STACK, Scanned, Unfit, Unread};
 
 // The nesting limit and the number of calls, or the refusal and its place.
 fn run(rt: &impl Print, label: &str, bytes: &[u8]) -> io::Result<()> {
     match syntax::scan_run(bytes) {
         Ok(Scanned { limit, calls }) => println!(rt; "{label}: limit {limit}, calls {calls}"),
-        Err(Refusal { number, place }) => println!(rt; "{label}: refused {number} at {place}"),
+        Err(RefusedRun { refusal, place }) => println!(rt;
+            "{label}: refused {} at {place}",
+            refusal.number()
+        ),
     }
 }
 
 // The first call's nodes, or its refusal, and the offset past it.
 fn call(rt: &impl Print, label: &str, bytes: &[u8]) -> io::Result<()> {
-    let mut stack = [0u8; 131073];
+    let mut stack = [0u8; STACK];
     match syntax::size_call(bytes, 2, &mut stack) {
         Ok(Fitting { nodes, next, .. }) => println!(rt; "{label}: nodes {nodes}, next {next}"),
-        Err(Unfit::Refused(number, next)) => println!(rt; "{label}: refused {number}, next {next}"),
+        Err(Unfit::Refused(refusal, next)) => println!(rt;
+            "{label}: refused {}, next {next}",
+            refusal.number()
+        ),
         Err(Unfit::Unread(Unread::Bad(place))) => println!(rt;
             "{label}: bad {place} of {}",
             bytes.len()

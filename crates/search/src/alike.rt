@@ -1,23 +1,9 @@
 // Two cells by what their quotes show, over any words.
 ghost use Rattle.std.specs.Prelude.{◌≡◌};
-ghost use Rattle.search.specs.Alike.{cell_word, kind_word, same_part, same_cells};
+ghost use Rattle.search.specs.Alike.{same_part, same_cells};
 
-use ast::words::word;
+use ast::cells::cell_word;
 use rules::Sort;
-
-// A word of a cell, and 0 past the end.
-fn cell_word(cells: &[u32], i: u32, w: u32) -> u32
-    ensures { result ≡ cell_word cells.now i w }
-{
-    word(cells, (i as usize) * 8 + w as usize)
-}
-
-// The kind of a cell.
-fn kind_word(cells: &[u32], i: u32) -> u32
-    ensures { result ≡ kind_word cells.now i }
-{
-    word(cells, (i as usize) * 8)
-}
 
 // Whether two cells show the same: where the first has a quote, whether that is the quote of the second. Equal numbers need no look, so
 // cells that share their parts are compared once.
@@ -29,8 +15,8 @@ pub fn same_cells(cells: &[u32], i: u32, j: u32) -> bool
     if i == j {
         return true;
     }
-    let kind = kind_word(cells, i);
-    kind_word(cells, j) == kind
+    let kind = cell_word(cells, i, 0);
+    cell_word(cells, j, 0) == kind
         && same_part(cells, kind, 0, i, j)
         && same_part(cells, kind, 1, i, j)
         && same_part(cells, kind, 2, i, j)

@@ -3,6 +3,7 @@ ghost use Rattle.std.specs.Prelude.{◌≡◌};
 ghost use Rattle.search.specs.Indexing.{index_row, indexed};
 
 use ast::words::{put_all, word};
+use producer::codes::Words;
 use producer::rows::{link_row, row_start};
 
 // Row `n` comes into the index of those below it, with the kind that its rule concludes and no child.
@@ -11,14 +12,17 @@ fn index_row(rows: &mut [u32], n: u32)
     ensures { rows.new ≡ index_row rows.old n }
 {
     let at = row_start(n);
-    let kind = rules::rule_kind(word(rows, at));
-    let a = word(rows, at + 13);
-    let b = word(rows, at + 14);
-    let c = word(rows, at + 15);
-    let d = word(rows, at + 16);
-    let e = word(rows, at + 17);
-    link_row(rows, n, kind, a, b, c, d, e);
-    put_all(rows, at + 19, &[kind, 0, 0, 0, 0]);
+    let words = Words {
+        kind: rules::rule_kind(word(rows, at)),
+        count: word(rows, at + 12),
+        a: word(rows, at + 13),
+        b: word(rows, at + 14),
+        c: word(rows, at + 15),
+        d: word(rows, at + 16),
+        e: word(rows, at + 17),
+    };
+    link_row(rows, n, words);
+    put_all(rows, at + 19, &[words.kind, 0, 0, 0, 0]);
 }
 
 // The first `n` rows are indexed: whatever their working words were, `find_row` then finds the highest row with a judgment.

@@ -17,7 +17,7 @@ use Rattle.syntax.specs.Codes.{codes_of, codes_in, unless_over, call_codes, Read
 use Rattle.std.specs.Prelude.{Result, Ok, Err}
 use Rattle.syntax.specs.declared.scan.Unread.{Unread}
 use Rattle.syntax.specs.declared.scan.Scanned.{Scanned}
-use Rattle.syntax.specs.declared.scan.Refusal.{Refusal}
+use Rattle.syntax.specs.declared.scan.RefusedRun.{RefusedRun}
 use Rattle.syntax.proofs.Runs.{past_call}
 
 -- What is left of the codes to store, of so many calls, from call i at an offset on: those of the calls that stand there.
@@ -66,7 +66,7 @@ readable bytes found e = long (ltb 65536 (length bytes)) refl e
     long true q e = absurd (unfold unless_long in let z : ◌≡◌ {A = ℕ} 0 1 = cc in omega arith)
     long false q e = read (ltb-false 65536 (length bytes) q) (read_run bytes) refl q (unfold unless_long in e)
 
-pub unreadable : (bytes : List ℕ) (refusal : Refusal) → Err refusal ≡ scanned bytes → call_codes bytes ≡ []
+pub unreadable : (bytes : List ℕ) (refused : RefusedRun) → Err refused ≡ scanned bytes → call_codes bytes ≡ []
 unfolding unless_over
 unreadable bytes refusal e = long (ltb 65536 (length bytes)) e
   where
@@ -79,6 +79,6 @@ unreadable bytes refusal e = long (ltb 65536 (length bytes)) e
     long false e = read (read_run bytes) (unfold unless_long in e)
 
 -- An answer that is no run's is a refusal.
-pub not_read : (bytes : List ℕ) (r : Result Scanned Refusal) → ((found : Scanned) → r ≡ Ok found → ⊥) → r ≡ scanned bytes → call_codes bytes ≡ []
+pub not_read : (bytes : List ℕ) (r : Result Scanned RefusedRun) → ((found : Scanned) → r ≡ Ok found → ⊥) → r ≡ scanned bytes → call_codes bytes ≡ []
 not_read bytes (Ok found) never e = absurd (never found refl)
 not_read bytes (Err refusal) never e = unreadable bytes refusal e

@@ -1,5 +1,5 @@
 -- The loop over the terms of a call, with their sizes.
-use Prim.Native.Nat.{ℕ, zero, suc, ◌+◌, ◌*◌, ◌-◌, ◌≤◌, ◌<◌}
+use Prim.Native.Nat.{ℕ, zero, suc, ◌+◌, ◌-◌, ◌≤◌, ◌<◌}
 use mathlib.Core.Path.{◌≡◌, refl, ap, ◌∙◌}
 use mathlib.Core.List.{List, ◌∷◌, ◌++◌}
 use mathlib.Core.Bool.{Bool, true, false, ◌||◌}
@@ -7,17 +7,18 @@ use native.Mathlib.Omega.{arith}
 use borrow.Author.Tests.{lt-ltb, le-ltb}
 use lib.Dec.{ltb}
 use lib.ListN.{length, drop}
-use Rattle.walk.specs.Refusal as Refusal
+use Rattle.ast.specs.declared.refusals.Refusal.{Refusal}
+use Rattle.ast.specs.declared.refusals.Refusal.TheVariants as refusal
 use Rattle.walk.specs.Syntax.{Term}
 use Rattle.walk.specs.Reader.{Read, got, bad, read_on, ◌>>=◌, ok, terms_of, Head, Call, read_terms, read_head, read_call}
 use Rattle.walk.specs.Limits.{Sized, fits, scope_over, size_over, index_over, size_on, size_term, size_terms, size_call}
-use Rattle.syntax.specs.Told.{term_at, terms_at, call_at, short, unread_at, next_of, next_in, head_in, head_of, HeadAt, many_terms, fits_to, sized, size_of}
+use Rattle.syntax.specs.Told.{term_at, terms_at, call_at, unread_at, next_of, head_in, head_of, HeadAt, many_terms, fits_to, sized, size_of}
 use Rattle.syntax.specs.Ends.{ends, goes_term}
 use Rattle.syntax.specs.Heads.{tells_bad}
 use Rattle.syntax.specs.Calls.{are_terms, call_is, call_head as head_here}
 use Rattle.syntax.specs.Parts.{Count, reached, counted, Faults, Counts}
 use Rattle.syntax.specs.declared.scan.CallHead.{CallHead}
-use Rattle.std.specs.Prelude.{Result, Ok, Err}
+use Rattle.std.specs.Prelude.{Ok, Err}
 use Rattle.syntax.specs.declared.scan.Fault.{Fault}
 use Rattle.syntax.specs.declared.scan.Unread.{Unread}
 use Rattle.syntax.specs.declared.scan.Unread.TheVariants.{Bad as Faulty}
@@ -70,9 +71,9 @@ terms_stop bytes (suc k) nodes at u h c = first (term_at bytes at) c
 
     unread : (s : Sized) (end place : ℕ) → Err u ≡ counted s end → Faults place (Err u)
     unread (fits n) end place e = absurd (unfold counted in let z : ◌≡◌ {A = ℕ} 0 1 = cc in omega arith)
-    unread scope_over end place e = unfold counted in let q : u ≡ Refused Refusal.scope = cc in rw q tt
-    unread size_over end place e = unfold counted in let q : u ≡ Refused Refusal.size = cc in rw q tt
-    unread index_over end place e = unfold counted in let q : u ≡ Refused Refusal.index = cc in rw q tt
+    unread scope_over end place e = unfold counted in let q : u ≡ Refused refusal.Scope = cc in rw q tt
+    unread size_over end place e = unfold counted in let q : u ≡ Refused refusal.Size = cc in rw q tt
+    unread index_over end place e = unfold counted in let q : u ≡ Refused refusal.Index = cc in rw q tt
 
     rest : (t : Term) (end : ℕ) → Err u ≡ counted (size_term t 0 nodes) end → (x : Read (List Term)) → Counts (λ ts. size_terms ts nodes) (read_on x (λ ts. ok (t ∷ ts))) (Err u)
     rest t end e (got ts bs end') = unfold size_terms in over (size_term t 0 nodes) end end' (size_terms ts) e
@@ -97,15 +98,15 @@ abbrev made : Head → List Term → List Term → Call
 made head types terms = record { code = head.code; dims = head.dims; types = types; terms = terms }
 
 module _ (bytes : List ℕ) (at : ℕ) (head : Head) where
-  pub call_over : (ltb 33 head.dims || ltb 33 head.size) ≡ true → Counts size_call (call_of (length bytes) head (drop at bytes) at) (Err (Refused Refusal.scope))
+  pub call_over : (ltb 33 head.dims || ltb 33 head.size) ≡ true → Counts size_call (call_of (length bytes) head (drop at bytes) at) (Err (Refused refusal.Scope))
   unfolding ◌>>=◌ read_on ok
   call_over t = first (terms_at head.size bytes at) refl
     where
-      second : (types : List Term) → length types ≡ head.size → (x : Read (List Term)) → Counts size_call (read_on x (λ terms. ok (made head types terms))) (Err (Refused Refusal.scope))
+      second : (types : List Term) → length types ≡ head.size → (x : Read (List Term)) → Counts size_call (read_on x (λ terms. ok (made head types terms))) (Err (Refused refusal.Scope))
       second types l (got terms rest end) = rw (size_call_is (made head types terms) true (rw l t)) (unfold counted in refl)
       second types l (bad place) = tt
 
-      first : (x : Read (List Term)) → terms_at head.size bytes at ≡ x → Counts size_call (read_on x (λ types. read_terms (length bytes) (terms_of head.code) >>= λ terms. ok (made head types terms))) (Err (Refused Refusal.scope))
+      first : (x : Read (List Term)) → terms_at head.size bytes at ≡ x → Counts size_call (read_on x (λ types. read_terms (length bytes) (terms_of head.code) >>= λ terms. ok (made head types terms))) (Err (Refused refusal.Scope))
       first (got types rest middle) e = second types (are_terms bytes head.size at e).many (read_terms (length bytes) (terms_of head.code) rest middle)
       first (bad place) e = tt
 
@@ -131,12 +132,12 @@ module _ (bytes : List ℕ) (from : ℕ) (told : CallHead) (e : HeadAt bytes fro
   size_is : told.size ≡ head.size
   size_is = ap (λ (h : CallHead). h.size) (T bytes from told e).is
 
-  pub dims_over : 33 < told.dims → Counts size_call (call_at bytes from) (Err (Refused Refusal.scope))
+  pub dims_over : 33 < told.dims → Counts size_call (call_at bytes from) (Err (Refused refusal.Scope))
   dims_over h =
       let l : 33 < head.dims = omega (arith, dims_is) in
       rw (call_here bytes from told e) (call_over bytes (from + 3) head (rw (lt-ltb 33 head.dims l)))
 
-  pub size_over_33 : told.dims ≤ 33 → 33 < told.size → Counts size_call (call_at bytes from) (Err (Refused Refusal.scope))
+  pub size_over_33 : told.dims ≤ 33 → 33 < told.size → Counts size_call (call_at bytes from) (Err (Refused refusal.Scope))
   size_over_33 k h =
       let m : head.dims ≤ 33 = omega (arith, dims_is) in
       let l : 33 < head.size = omega (arith, size_is) in
@@ -173,29 +174,25 @@ size_bad (got call rest next) p c = absurd (go (size_call call) c)
     go index_over e = let z : ◌≡◌ {A = ℕ} 0 1 = cc in omega arith
 size_bad (bad place) p c = rw c
 
--- The end of a refused call is found over the same stack, whose length is what it was.
-module _ (bytes stack stack₀ : List ℕ) (r : Read Call) (number : ℕ) (l : length stack ≡ length stack₀) (h : 2 * length bytes + 1 ≤ length stack₀) (c : Counts size_call r (Err (Refused number))) where
-  next_is : {next : Result ℕ Unread} → next ≡ next_in (short stack bytes) r → next ≡ next_of r
-  unfolding next_in
-  next_is e = e ∙ rw (le-ltb (length stack) (2 * length bytes + 1) (omega arith))
-
-  pub size_refused : (end : ℕ) → Ok end ≡ next_in (short stack bytes) r → Err (Over number end) ≡ size_of r
+-- The end of a refused call.
+module _ (r : Read Call) (why : Refusal) (c : Counts size_call r (Err (Refused why))) where
+  pub size_refused : (end : ℕ) → Ok end ≡ next_of r → Err (Over why end) ≡ size_of r
   unfolding next_of size_of
-  size_refused end e = go r c (next_is e)
+  size_refused end e = go r c e
     where
-      told_as : (s : Sized) (call : Call) (end : ℕ) → Err (Refused number) ≡ counted s end → Err (Over number end) ≡ sized s call end
+      told_as : (s : Sized) (call : Call) (end : ℕ) → Err (Refused why) ≡ counted s end → Err (Over why end) ≡ sized s call end
       told_as (fits n) call end q = absurd (unfold counted in let z : ◌≡◌ {A = ℕ} 0 1 = cc in omega arith)
-      told_as scope_over call end q = unfold counted sized in let k : number ≡ Refusal.scope = cc in rw k
-      told_as size_over call end q = unfold counted sized in let k : number ≡ Refusal.size = cc in rw k
-      told_as index_over call end q = unfold counted sized in let k : number ≡ Refusal.index = cc in rw k
+      told_as scope_over call end q = unfold counted sized in let k : why ≡ refusal.Scope = cc in rw k
+      told_as size_over call end q = unfold counted sized in let k : why ≡ refusal.Size = cc in rw k
+      told_as index_over call end q = unfold counted sized in let k : why ≡ refusal.Index = cc in rw k
 
-      go : (r : Read Call) → Counts size_call r (Err (Refused number)) → Ok end ≡ next_of r → Err (Over number end) ≡ size_of r
+      go : (r : Read Call) → Counts size_call r (Err (Refused why)) → Ok end ≡ next_of r → Err (Over why end) ≡ size_of r
       go (got call rest end') c e = let q : end ≡ end' = cc in rw q (told_as (size_call call) call end' c)
       go (bad place) c e = absurd (let z : ◌≡◌ {A = ℕ} 0 1 = cc in omega arith)
 
-  pub size_unread : (u : Unread) → Err u ≡ next_in (short stack bytes) r → Err (NotRead u) ≡ size_of r
+  pub size_unread : (u : Unread) → Err u ≡ next_of r → Err (NotRead u) ≡ size_of r
   unfolding next_of size_of
-  size_unread u e = go r (next_is e)
+  size_unread u e = go r e
     where
       go : (r : Read Call) → Err u ≡ next_of r → Err (NotRead u) ≡ size_of r
       go (got call rest end) e = absurd (let z : ◌≡◌ {A = ℕ} 0 1 = cc in omega arith)

@@ -10,7 +10,7 @@ use borrow.Author.Tests.{lt-ltb, le-ltb}
 use lib.Dec.{ltb, leb}
 use lib.ListN.{length, get_or, drop, drop_of_length-le}
 use lib.Seq.{drop-cons}
-use Rattle.walk.specs.Refusal as Refusal
+use Rattle.ast.specs.declared.refusals.Refusal.TheVariants as refusal
 use Rattle.syntax.specs.Parts.{Part, index, term, interval, after, part, word, pushed, Count, reached}
 use Rattle.std.specs.Prelude.{Err}
 use Rattle.syntax.specs.declared.limits.Uncounted.TheVariants.{Refused, Bad}
@@ -38,7 +38,7 @@ turn_done (b ∷ bs) words nodes at zero h = refl
 turn_done bs words nodes at (suc d) h = absurd (let z : ⊥ = omega arith in z)
 
 -- a part that is no number
-enter_node : (p : Part) (depth b n at : ℕ) (f : List Deep → ℕ → Count) → (p ≡ index → ⊥) → enter p depth b n at f ≡ unless (ltb 32 depth || leb 10000 n) 6 (allowed (after p b) at (λ new. f (all_at (depth + 1) new) (n + 1)))
+enter_node : (p : Part) (depth b n at : ℕ) (f : List Deep → ℕ → Count) → (p ≡ index → ⊥) → enter p depth b n at f ≡ unless (ltb 32 depth || leb 10000 n) refusal.Size (allowed (after p b) at (λ new. f (all_at (depth + 1) new) (n + 1)))
 unfolding enter
 enter_node index depth b n at f h = absurd (h refl)
 enter_node term depth b n at f h = refl
@@ -54,7 +54,7 @@ module _ (bytes words : List ℕ) (nodes at d : ℕ) (h : 0 < d) where
     unfolding measure means
     turn = rw (drop-cons bytes at 0 l, piled_top means words d h)
 
-    pub turn_index_over : part (get_or words (d - 1) 0 % 3) ≡ index → 32 < get_or bytes at 0 → measure (drop at bytes) (piled means words d) nodes at ≡ Err (Refused Refusal.index)
+    pub turn_index_over : part (get_or words (d - 1) 0 % 3) ≡ index → 32 < get_or bytes at 0 → measure (drop at bytes) (piled means words d) nodes at ≡ Err (Refused refusal.Index)
     unfolding enter unless
     turn_index_over z k = turn ∙ rw (z, lt-ltb 32 (get_or bytes at 0) k)
 
@@ -63,7 +63,7 @@ module _ (bytes words : List ℕ) (nodes at d : ℕ) (h : 0 < d) where
     turn_index z k = turn ∙ rw (z, le-ltb 32 (get_or bytes at 0) k, add-one at)
 
     module _ (z : part (get_or words (d - 1) 0 % 3) ≡ index → ⊥) where
-      pub turn_over : (ltb 32 (get_or words (d - 1) 0 / 3) || leb 10000 nodes) ≡ true → measure (drop at bytes) (piled means words d) nodes at ≡ Err (Refused Refusal.size)
+      pub turn_over : (ltb 32 (get_or words (d - 1) 0 / 3) || leb 10000 nodes) ≡ true → measure (drop at bytes) (piled means words d) nodes at ≡ Err (Refused refusal.Size)
       unfolding unless
       turn_over t = turn ∙ enter_node _ _ _ _ _ _ z ∙ rw t
 

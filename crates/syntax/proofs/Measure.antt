@@ -8,7 +8,8 @@ use native.Mathlib.Omega.{arith}
 use lib.Dec.{ltb, leb}
 use lib.ListN.{length, get_or, drop, length-drop}
 use Rattle.syntax.specs.Told.{term_at, next_of}
-use Rattle.walk.specs.Refusal as Refusal
+use Rattle.ast.specs.declared.refusals.Refusal.{Refusal}
+use Rattle.ast.specs.declared.refusals.Refusal.TheVariants as refusal
 use Rattle.walk.specs.Syntax.{I0, I1, Dim, Neg, Meet, Join, Term, Universe, Var, Nat, Zero, Pi, Lam, App, Path, PathLam, PathApp, Sigma, Pair, Fst, Snd}
 use Rattle.walk.specs.Reader.{Read, got, bad, Reader, read_on, ◌>>=◌, ok, byte, meant, one_of, k_u, k_v, k_nat, k_zero, k_pi, k_lam, k_app, k_path, k_plam, k_papp, k_sigma, k_pair, k_fst, k_snd, k_0, k_1, k_dim, k_neg, k_meet, k_join, kinds, ikinds, read_term, read_interval}
 use Rattle.walk.specs.Limits.{Sized, fits, scope_over, size_over, index_over, size_on, node, size_interval, size_term}
@@ -25,18 +26,18 @@ pub data Deep : Type 0 where
 abbrev pub all_at : ℕ → List Part → List Deep
 all_at depth ps = map (λ p. deep p depth) ps
 
-unfoldable pub unless : Bool → ℕ → Count → Count
-unless true number c = Err (Refused number)
-unless false number c = c
+unfoldable pub unless : Bool → Refusal → Count → Count
+unless true why c = Err (Refused why)
+unless false why c = c
 
 unfoldable pub allowed : Option (List Part) → ℕ → (List Part → Count) → Count
 allowed none at f = Err (Bad at)
 allowed (some new) at f = f new
 
 unfoldable pub enter : Part → ℕ → ℕ → ℕ → ℕ → (List Deep → ℕ → Count) → Count
-enter index depth b nodes at f = unless (ltb 32 b) 7 (f [] nodes)
-enter term depth b nodes at f = unless (ltb 32 depth || leb 10000 nodes) 6 (allowed (after term b) at (λ new. f (all_at (depth + 1) new) (nodes + 1)))
-enter interval depth b nodes at f = unless (ltb 32 depth || leb 10000 nodes) 6 (allowed (after interval b) at (λ new. f (all_at (depth + 1) new) (nodes + 1)))
+enter index depth b nodes at f = unless (ltb 32 b) refusal.Index (f [] nodes)
+enter term depth b nodes at f = unless (ltb 32 depth || leb 10000 nodes) refusal.Size (allowed (after term b) at (λ new. f (all_at (depth + 1) new) (nodes + 1)))
+enter interval depth b nodes at f = unless (ltb 32 depth || leb 10000 nodes) refusal.Size (allowed (after interval b) at (λ new. f (all_at (depth + 1) new) (nodes + 1)))
 
 unfoldable pub measure : List ℕ → List Deep → ℕ → ℕ → Count
 measure [] [] nodes at = reached nodes at
@@ -47,9 +48,9 @@ measure (b ∷ bs) (deep p depth ∷ ds) nodes at = enter p depth b nodes at (λ
 -- Go on where the size fits.
 unfoldable on_fit : Sized → (ℕ → Count) → Count
 on_fit (fits n) f = f n
-on_fit scope_over f = Err (Refused Refusal.scope)
-on_fit size_over f = Err (Refused Refusal.size)
-on_fit index_over f = Err (Refused Refusal.index)
+on_fit scope_over f = Err (Refused refusal.Scope)
+on_fit size_over f = Err (Refused refusal.Size)
+on_fit index_over f = Err (Refused refusal.Index)
 
 on_fit_on : (s : Sized) (f : ℕ → Sized) (g : ℕ → Count) → on_fit (size_on s f) g ≡ on_fit s (λ n. on_fit (f n) g)
 unfolding on_fit size_on
@@ -120,7 +121,7 @@ sizes_index : (depth : ℕ) → Sizes fits (deep index depth ∷ []) indexed byt
 unfolding byte measure enter unless on_fit indexed
 sizes_index depth = record { on = go }
   where
-    test : (t : Bool) (n : ℕ) (g : ℕ → Count) → unless t 7 (g n) ≡ on_fit (elim t as (λ x. Sized) [ true ↦ index_over | false ↦ fits n ]) g
+    test : (t : Bool) (n : ℕ) (g : ℕ → Count) → unless t refusal.Index (g n) ≡ on_fit (elim t as (λ x. Sized) [ true ↦ index_over | false ↦ fits n ]) g
     test true n g = refl
     test false n g = refl
 
@@ -129,22 +130,22 @@ sizes_index depth = record { on = go }
     go (b ∷ bs) at = λ st n. test (ltb 32 b) n (λ m. measure bs st m (at + 1))
 
 -- A node: its byte is looked up in a table, and its parts follow.
-sizes_node : {A K : Type 0} {size : A → ℕ → Sized} (table : List (Option K)) (parts_of : K → List Part) (p : Part) (depth : ℕ) → ((b n at : ℕ) (g : List Deep → ℕ → Count) → enter p depth b n at g ≡ unless (ltb 32 depth || leb 10000 n) 6 (allowed (of_kind parts_of (get_or table b none)) at (λ new. g (all_at (depth + 1) new) (n + 1)))) → {m : K → Reader A} → ((k : K) → Sizes (own depth) (all_at (depth + 1) (parts_of k)) size (m k)) → Sizes fits (deep p depth ∷ []) size (one_of table >>= m)
+sizes_node : {A K : Type 0} {size : A → ℕ → Sized} (table : List (Option K)) (parts_of : K → List Part) (p : Part) (depth : ℕ) → ((b n at : ℕ) (g : List Deep → ℕ → Count) → enter p depth b n at g ≡ unless (ltb 32 depth || leb 10000 n) refusal.Size (allowed (of_kind parts_of (get_or table b none)) at (λ new. g (all_at (depth + 1) new) (n + 1)))) → {m : K → Reader A} → ((k : K) → Sizes (own depth) (all_at (depth + 1) (parts_of k)) size (m k)) → Sizes fits (deep p depth ∷ []) size (one_of table >>= m)
 unfolding ◌>>=◌ read_on one_of meant of_kind allowed on_fit measure
 sizes_node {A} {K} {size} table parts_of p depth tells {m} each = record { on = go }
   where
-    enters : (n : ℕ) (g : ℕ → Count) → unless (ltb 32 depth || leb 10000 n) 6 (g (n + 1)) ≡ on_fit (own depth n) g
+    enters : (n : ℕ) (g : ℕ → Count) → unless (ltb 32 depth || leb 10000 n) refusal.Size (g (n + 1)) ≡ on_fit (own depth n) g
     enters n g = unfold node in test (ltb 32 depth || leb 10000 n)
       where
-        test : (t : Bool) → unless t 6 (g (n + 1)) ≡ on_fit (elim t as (λ x. Sized) [ true ↦ size_over | false ↦ fits (n + 1) ]) g
+        test : (t : Bool) → unless t refusal.Size (g (n + 1)) ≡ on_fit (elim t as (λ x. Sized) [ true ↦ size_over | false ↦ fits (n + 1) ]) g
         test true = unfold unless on_fit in refl
         test false = unfold unless on_fit in refl
 
-    with_kind : (b : ℕ) (bs : List ℕ) (at : ℕ) (k : K) → ((n : ℕ) (g : List Deep → ℕ → Count) → enter p depth b n at g ≡ unless (ltb 32 depth || leb 10000 n) 6 (g (all_at (depth + 1) (parts_of k)) (n + 1))) → (r : Read A) → Gives (own depth) (all_at (depth + 1) (parts_of k)) size bs (at + 1) r → Gives fits (deep p depth ∷ []) size (b ∷ bs) at r
+    with_kind : (b : ℕ) (bs : List ℕ) (at : ℕ) (k : K) → ((n : ℕ) (g : List Deep → ℕ → Count) → enter p depth b n at g ≡ unless (ltb 32 depth || leb 10000 n) refusal.Size (g (all_at (depth + 1) (parts_of k)) (n + 1))) → (r : Read A) → Gives (own depth) (all_at (depth + 1) (parts_of k)) size bs (at + 1) r → Gives fits (deep p depth ∷ []) size (b ∷ bs) at r
     with_kind b bs at k e (got a bs' at') E = λ st n. e n (λ new n'. measure bs (new ++ st) n' (at + 1)) ∙ enters n (λ n'. measure bs (all_at (depth + 1) (parts_of k) ++ st) n' (at + 1)) ∙ E st n
     with_kind b bs at k e (bad place) E = tt
 
-    at_byte : (b : ℕ) (bs : List ℕ) (at : ℕ) (o : Option K) → ((n : ℕ) (g : List Deep → ℕ → Count) → enter p depth b n at g ≡ unless (ltb 32 depth || leb 10000 n) 6 (allowed (of_kind parts_of o) at (λ new. g (all_at (depth + 1) new) (n + 1)))) → Gives fits (deep p depth ∷ []) size (b ∷ bs) at (read_on (meant o bs at) m)
+    at_byte : (b : ℕ) (bs : List ℕ) (at : ℕ) (o : Option K) → ((n : ℕ) (g : List Deep → ℕ → Count) → enter p depth b n at g ≡ unless (ltb 32 depth || leb 10000 n) refusal.Size (allowed (of_kind parts_of o) at (λ new. g (all_at (depth + 1) new) (n + 1)))) → Gives fits (deep p depth ∷ []) size (b ∷ bs) at (read_on (meant o bs at) m)
     at_byte b bs at none e = tt
     at_byte b bs at (some k) e = with_kind b bs at k e (m k bs (at + 1)) ((each k).on bs (at + 1))
 
@@ -200,7 +201,7 @@ sizes_term (ℕ.suc f) depth =
 -- Until it is refused, the pass goes as the scan does.
 abbrev Scans : Count → Result ℕ Unread → Type 0
 Scans (Ok c) x = x ≡ Ok c.next
-Scans (Err (Refused number)) x = Unit {0}
+Scans (Err (Refused why)) x = Unit {0}
 Scans (Err (Bad place)) x = x ≡ Err (NoNext place)
 
 abbrev undeep : List Deep → List Part
@@ -218,22 +219,22 @@ scans [] (deep p depth ∷ ds) n at = refl
 scans (b ∷ bs) [] n at = refl
 scans (b ∷ bs) (deep p depth ∷ ds) n at = enters p (λ new m. scans bs new m (at + 1))
   where
-    unlesss : (t : Bool) (number : ℕ) (c : Count) (x : Result ℕ Unread) → Scans c x → Scans (unless t number c) x
-    unlesss true number c x h = unfold unless in tt
-    unlesss false number c x h = unfold unless in h
+    unlesss : (t : Bool) (why : Refusal) (c : Count) (x : Result ℕ Unread) → Scans c x → Scans (unless t why c) x
+    unlesss true why c x h = unfold unless in tt
+    unlesss false why c x h = unfold unless in h
 
     node_on : (o : Option (List Part)) → ((new : List Deep) (m : ℕ) → Scans (measure bs new m (at + 1)) (over bs (undeep new) (at + 1))) → Scans (allowed o at (λ new. measure bs (all_at (depth + 1) new ++ ds) (n + 1) (at + 1))) (opened o at (λ new. over bs (new ++ undeep ds) (at + 1)))
     node_on none ih = unfold allowed opened in refl
     node_on (some new) ih = unfold allowed opened in rw (undeep_new (depth + 1) new ds) at (ih (all_at (depth + 1) new ++ ds) (n + 1))
 
     enters : (p : Part) → ((new : List Deep) (m : ℕ) → Scans (measure bs new m (at + 1)) (over bs (undeep new) (at + 1))) → Scans (enter p depth b n at (λ new m. measure bs (new ++ ds) m (at + 1))) (opened (after p b) at (λ new. over bs (new ++ undeep ds) (at + 1)))
-    enters index ih = unfold opened in unlesss (ltb 32 b) 7 _ _ (ih ds n)
-    enters term ih = unlesss (ltb 32 depth || leb 10000 n) 6 _ _ (node_on (after term b) ih)
-    enters interval ih = unlesss (ltb 32 depth || leb 10000 n) 6 _ _ (node_on (after interval b) ih)
+    enters index ih = unfold opened in unlesss (ltb 32 b) refusal.Index _ _ (ih ds n)
+    enters term ih = unlesss (ltb 32 depth || leb 10000 n) refusal.Size _ _ (node_on (after term b) ih)
+    enters interval ih = unlesss (ltb 32 depth || leb 10000 n) refusal.Size _ _ (node_on (after interval b) ih)
 
 faults : (c : Count) (x : Result ℕ Unread) (place : ℕ) → Scans c x → x ≡ Err (NoNext place) → Faults place c
 faults (Ok n) x place s e = let z : ◌≡◌ {A = ℕ} 0 1 = cc in omega arith
-faults (Err (Refused number)) x place s e = tt
+faults (Err (Refused why)) x place s e = tt
 faults (Err (Bad at)) x place s e = cc
 
 pub measure_term : (f n : ℕ) (bs : List ℕ) (at : ℕ) → length bs ≤ f → Counts (λ t. size_term t 0 n) (read_term f bs at) (measure bs (deep term 0 ∷ []) n at)

@@ -15,6 +15,7 @@ use Rattle.std.specs.Prelude.{Ok, Err}
 use Rattle.syntax.specs.declared.scan.Fault.{Fault}
 use Rattle.syntax.specs.declared.scan.Unread.{Unread}
 use Rattle.syntax.specs.declared.scan.Unread.TheVariants.{Bad, Short}
+use Rattle.syntax.specs.declared.lent.TheConstants.{STACK}
 use Rattle.syntax.proofs.Terms.{past}
 
 pub past_call : (t : Bool) (bytes : List ℕ) (at p : ℕ) → Ok p ≡ next_in t (call_at bytes at) → (call : Call) × (call_at bytes at ≡ got call (drop p bytes) p) × (at + 3 ≤ p)
@@ -61,7 +62,7 @@ pub calls_done : (bytes : List ℕ) (limit m n at : ℕ) → length bytes ≤ at
 unfolding counted
 calls_done bytes limit m n at h = rw (read_none (length bytes) m bytes at h, add-zero n)
 
-pub room : (n w : ℕ) → n ≤ 65536 → w ≡ 131073 → 2 * n + 1 ≤ w
+pub room : (n w : ℕ) → n ≤ 65536 → w ≡ STACK → 2 * n + 1 ≤ w
 room n w h e = omega arith
 
 -- the header, then the calls

@@ -23,8 +23,9 @@ past true r p e = absurd (let z : ◌≡◌ {A = ℕ} 0 1 = cc in omega arith)
 past false (got a rest at) p e = let q : p ≡ at = cc in rw q (a, rest, refl)
 past false (bad place) p e = absurd (let z : ◌≡◌ {A = ℕ} 0 1 = cc in omega arith)
 
-pub past_term : (t : Bool) (bytes : List ℕ) (at p : ℕ) → Ok p ≡ next_in t (term_at bytes at) → (a : Term) × (term_at bytes at ≡ got a (drop p bytes) p)
-past_term t bytes at p e = go (past t (term_at bytes at) p e)
+past_term : (bytes : List ℕ) (at p : ℕ) → Ok p ≡ next_of (term_at bytes at) → (a : Term) × (term_at bytes at ≡ got a (drop p bytes) p)
+unfolding next_in
+past_term bytes at p e = go (past false (term_at bytes at) p e)
   where
     go : (a : Term) × (rest : List ℕ) × (term_at bytes at ≡ got a rest p) → (a : Term) × (term_at bytes at ≡ got a (drop p bytes) p)
     go q = (q.0, q.2 ∙ ap (λ (l : List ℕ). got q.0 l p) (ends (goes_term (length bytes)) bytes at q.2).left)
@@ -34,27 +35,21 @@ unfolding next_of read_on ok
 next_map g (got a rest at) = refl
 next_map g (bad place) = refl
 
-pub same_in : {A B : Type 0} (t : Bool) (r : Read A) (r' : Read B) → next_of r ≡ next_of r' → next_in t r ≡ next_in t r'
-unfolding next_in
-same_in true r r' e = refl
-same_in false r r' e = e
-
 -- one turn, after so many
-pub terms_on : (t : Bool) (bytes : List ℕ) (n i at p : ℕ) → i < n → Ok p ≡ next_in t (term_at bytes at) → next_of (terms_at (n - i) bytes at) ≡ next_of (terms_at (n - (i + 1)) bytes p)
+pub terms_on : (bytes : List ℕ) (n i at p : ℕ) → i < n → Ok p ≡ next_of (term_at bytes at) → next_of (terms_at (n - i) bytes at) ≡ next_of (terms_at (n - (i + 1)) bytes p)
 unfolding read_terms ◌>>=◌ read_on
-terms_on t bytes n i at p h e =
+terms_on bytes n i at p h e =
     let left : n - i ≡ suc (n - (i + 1)) = omega arith in
-    rw (left, (past_term t bytes at p e).1) (next_map _ (read_terms (length bytes) (n - (i + 1)) (drop p bytes) p))
+    rw (left, (past_term bytes at p e).1) (next_map _ (read_terms (length bytes) (n - (i + 1)) (drop p bytes) p))
 
-pub terms_stop : (t : Bool) (bytes : List ℕ) (n at : ℕ) (u : Unread) → 0 < n → Err u ≡ next_in t (term_at bytes at) → Err u ≡ next_in t (terms_at n bytes at)
+pub terms_stop : (bytes : List ℕ) (n at : ℕ) (u : Unread) → 0 < n → Err u ≡ next_of (term_at bytes at) → Err u ≡ next_of (terms_at n bytes at)
 unfolding read_terms ◌>>=◌
-terms_stop t bytes zero at u h e = absurd (let z : ⊥ = omega arith in z)
-terms_stop t bytes (suc n) at u h e = go t (term_at bytes at) e
+terms_stop bytes zero at u h e = absurd (let z : ⊥ = omega arith in z)
+terms_stop bytes (suc n) at u h e = go (term_at bytes at) e
   where
-    go : (t : Bool) (x : Read Term) → Err u ≡ next_in t x → Err u ≡ next_in t (read_on x (λ a. read_terms (length bytes) n >>= λ as'. ok (a ∷ as')))
-    go true x e = unfold next_in in e
-    go false (got a rest p) e = absurd (unfold next_in next_of in let z : ◌≡◌ {A = ℕ} 0 1 = cc in omega arith)
-    go false (bad place) e = unfold next_in next_of read_on in e
+    go : (x : Read Term) → Err u ≡ next_of x → Err u ≡ next_of (read_on x (λ a. read_terms (length bytes) n >>= λ as'. ok (a ∷ as')))
+    go (got a rest p) e = absurd (unfold next_of in let z : ◌≡◌ {A = ℕ} 0 1 = cc in omega arith)
+    go (bad place) e = unfold next_of read_on in e
 
 pub terms_done : (bytes : List ℕ) (n at : ℕ) → n ≤ 0 → next_of (terms_at n bytes at) ≡ Ok at
 unfolding read_terms ok next_of

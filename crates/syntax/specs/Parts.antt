@@ -1,7 +1,7 @@
 -- What a byte of a term leaves to be read: the parts of a node, which go onto a stack.
 use Rattle.std.specs.Prelude.{ℕ, ◌+◌, ◌*◌, ◌≡◌, List, [], ◌∷◌, get_or, length, set, Result, Ok, Err}
 use Rattle.std.proofs.Math.Option.{Option, none, some}
-use Rattle.walk.specs.Refusal as Refusal
+use Rattle.ast.specs.declared.refusals.Refusal.TheVariants as refusal
 use Rattle.walk.specs.Reader.{Read, got, bad, Kind, k_u, k_v, k_nat, k_zero, k_pi, k_lam, k_app, k_path, k_plam, k_papp, k_sigma, k_pair, k_fst, k_snd, IKind, k_0, k_1, k_dim, k_neg, k_meet, k_join, kinds, ikinds}
 use Rattle.walk.specs.Limits.{Sized, fits, scope_over, size_over, index_over}
 pub use Rattle.syntax.specs.declared.parts.Part.{Part}
@@ -77,13 +77,13 @@ reached nodes next = Ok (record { nodes = nodes; next = next })
 
 unfoldable pub counted : Sized → ℕ → Count
 counted (fits nodes) next = reached nodes next
-counted scope_over next = Err (Refused Refusal.scope)
-counted size_over next = Err (Refused Refusal.size)
-counted index_over next = Err (Refused Refusal.index)
+counted scope_over next = Err (Refused refusal.Scope)
+counted size_over next = Err (Refused refusal.Size)
+counted index_over next = Err (Refused refusal.Index)
 
 abbrev pub Faults : ℕ → Count → Type 0
 Faults place (Ok counted) = ⊥
-Faults place (Err (Refused number)) = Unit {0}
+Faults place (Err (Refused why)) = Unit {0}
 Faults place (Err (Bad at)) = at ≡ place
 
 abbrev pub Counts : {A : Type 0} → (A → Sized) → Read A → Count → Type 0

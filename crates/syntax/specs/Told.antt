@@ -1,7 +1,8 @@
 -- What each public function answers, by the definitions of `walk`.
 use Rattle.std.specs.Prelude.{ℕ, ◌+◌, ◌*◌, ◌≡◌, List, Bool, true, false, ltb, length, drop, Option as Maybe, Some, None, Result, Ok, Err}
 use Rattle.std.proofs.Math.Option.{Option, none, some}
-use Rattle.walk.specs.Refusal as Refusal
+use Rattle.ast.specs.declared.refusals.Refusal.{Refusal}
+use Rattle.ast.specs.declared.refusals.Refusal.TheVariants as refusal
 use Rattle.walk.specs.Syntax.{Term}
 use Rattle.walk.specs.Reader.{Read, got, bad, Code, c_context, c_universe, c_infer, c_check, c_normalise, c_equal, terms_of, Head, Call, read_term, read_terms, read_head, read_call, read_run}
 use Rattle.walk.specs.Limits.{Sized, fits, scope_over, size_over, index_over, size_call}
@@ -12,7 +13,7 @@ use Rattle.syntax.specs.declared.calls.Code.{Code as CallCode}
 use Rattle.syntax.specs.declared.calls.Code.TheVariants.{Context, Universe, Infer, Check, Normalise, Equal}
 use Rattle.syntax.specs.declared.scan.CallHead.{CallHead}
 use Rattle.syntax.specs.declared.scan.Scanned.{Scanned}
-use Rattle.syntax.specs.declared.scan.Refusal.{Refusal as Refused}
+use Rattle.syntax.specs.declared.scan.RefusedRun.{RefusedRun}
 use Rattle.syntax.specs.declared.limits.Fitting.{Fitting}
 use Rattle.syntax.specs.declared.limits.Unfit.{Unfit}
 use Rattle.syntax.specs.declared.limits.Unfit.TheVariants.{Refused as Over, Unread as NotRead}
@@ -120,31 +121,31 @@ many_terms head = head.size + terms_of (code_of head.code)
 abbrev pub limit_of : Read ℕ → Result ℕ Fault
 limit_of = value_of
 
-abbrev pub calls_read : ℕ → ℕ → Result Scanned Refused
+abbrev pub calls_read : ℕ → ℕ → Result Scanned RefusedRun
 calls_read limit calls = Ok (record { limit = limit; calls = calls })
 
-abbrev pub refused_at : ℕ → ℕ → Refused
-refused_at number place = record { number = number; place = place }
+abbrev pub refused_at : Refusal → ℕ → RefusedRun
+refused_at why place = record { refusal = why; place = place }
 
 -- A run that cannot be read is refused; one that is too long for the stack is too long.
-abbrev pub refused_unread : Unread → Refused
-refused_unread (Bad place) = refused_at Refusal.unread place
-refused_unread Short = refused_at Refusal.bytes 0
+abbrev pub refused_unread : Unread → RefusedRun
+refused_unread (Bad place) = refused_at refusal.Unread place
+refused_unread Short = refused_at refusal.Bytes 0
 
 -- The calls that are read, after so many.
-unfoldable pub counted : ℕ → ℕ → Read (List Call) → Result Scanned Refused
+unfoldable pub counted : ℕ → ℕ → Read (List Call) → Result Scanned RefusedRun
 counted limit n (got calls rest at) = calls_read limit (n + length calls)
-counted limit n (bad place) = Err (refused_at Refusal.unread place)
+counted limit n (bad place) = Err (refused_at refusal.Unread place)
 
-unfoldable pub told : Read (ℕ × List Call) → Result Scanned Refused
+unfoldable pub told : Read (ℕ × List Call) → Result Scanned RefusedRun
 told (got (limit, calls) rest at) = calls_read limit (length calls)
-told (bad place) = Err (refused_at Refusal.unread place)
+told (bad place) = Err (refused_at refusal.Unread place)
 
-unfoldable pub unless_long : Bool → Result Scanned Refused → Result Scanned Refused
-unless_long true s = Err (refused_at Refusal.bytes 0)
+unfoldable pub unless_long : Bool → Result Scanned RefusedRun → Result Scanned RefusedRun
+unless_long true s = Err (refused_at refusal.Bytes 0)
 unless_long false s = s
 
-abbrev pub scanned : List ℕ → Result Scanned Refused
+abbrev pub scanned : List ℕ → Result Scanned RefusedRun
 scanned bytes = unless_long (ltb 65536 (length bytes)) (told (read_run bytes))
 
 -- the limits of a call: refusals 5 to 7, or its head and its nodes; with the offset past it
@@ -154,9 +155,9 @@ fits_to head nodes next = Ok (record { head = head; nodes = nodes; next = next }
 
 unfoldable pub sized : Sized → Call → ℕ → Result Fitting Unfit
 sized (fits nodes) call next = fits_to (head_in call.code call.dims (length call.types)) nodes next
-sized scope_over call next = Err (Over Refusal.scope next)
-sized size_over call next = Err (Over Refusal.size next)
-sized index_over call next = Err (Over Refusal.index next)
+sized scope_over call next = Err (Over refusal.Scope next)
+sized size_over call next = Err (Over refusal.Size next)
+sized index_over call next = Err (Over refusal.Index next)
 
 unfoldable pub size_of : Read Call → Result Fitting Unfit
 size_of (got call rest next) = sized (size_call call) call next

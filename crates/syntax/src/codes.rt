@@ -1,29 +1,22 @@
 // The codes of a run's calls, for what shows their answers.
-ghost use Rattle.std.specs.Prelude.{◌≡◌, length, set};
+ghost use Rattle.std.specs.Prelude.{◌≡◌, length};
 ghost use Rattle.std.proofs.lemmas.List.Edits.{sets};
 ghost use Rattle.syntax.specs.Codes.{call_codes, Readable};
 
 use super::cursor::past_at;
+use super::lent::STACK;
 use super::scan::scan_run;
-
-// Stores a code, where there is room.
-fn put_code(codes: &mut [u8], i: usize, code: u8)
-    ensures { codes.new ≡ set codes.old i code }
-{
-    if i < codes.len() {
-        codes[i] = code;
-    }
-}
+use ast::words::put;
 
 // Stores each call's code, as far as there is room, of a run of so many calls that was read: none of them is bad, and the stack has room.
 fn put_codes(s: &[u8], calls: usize, codes: &mut [u8])
     requires { (run : Readable s.now) × (length run.calls ≡ calls) }
     ensures { codes.new ≡ sets codes.old 0 (call_codes s.now) }
 {
-    let mut stack = [0u8; 131073];
+    let mut stack = [0u8; STACK];
     let mut at: usize = 2;
     for i in 0..calls {
-        put_code(codes, i, s[at]);
+        put(codes, i, s[at]);
         let Ok(next) = past_at(s, at, &mut stack) else {
             return;
         };

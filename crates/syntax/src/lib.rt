@@ -4,6 +4,7 @@
 pub mod calls;
 pub mod codes;
 pub mod cursor;
+mod lent;
 pub mod limits;
 mod parts;
 pub mod scan;
@@ -11,7 +12,9 @@ pub mod scan;
 pub use calls::Code;
 pub use codes::call_codes;
 pub use cursor::{Reader, head_at, limit_of, past_at};
+pub use lent::STACK;
 pub use limits::{Fitting, Unfit, size_call};
 pub use scan::{
-    CallHead, Fault, Refusal, Scanned, Unread, read_head, scan_run, skip_call, skip_term, terms_of,
+    CallHead, Fault, RefusedRun, Scanned, Unread, read_head, scan_run, skip_call, skip_term,
+    terms_of,
 };

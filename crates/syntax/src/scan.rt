@@ -3,12 +3,13 @@
 ghost use Rattle.std.specs.Prelude.{◌≡◌, ◌≤◌, length, drop, get_or};
 ghost use Rattle.std.proofs.Math.Option.{none};
 ghost use Rattle.walk.specs.Reader.{codes, byte, read_head as walk_head, read_limit as walk_limit, read_calls};
-ghost use Rattle.syntax.specs.Told.{term_at, terms_at, call_at, short, next_in, head_of, terms_in, many_terms, limit_of, counted, scanned, unread_at, refused_unread, value_of};
+ghost use Rattle.syntax.specs.Told.{term_at, terms_at, call_at, short, next_of, next_in, head_of, terms_in, many_terms, limit_of, counted, scanned, unread_at, refused_unread, value_of};
 
 use super::calls::Code;
 use super::cursor::{head_at, limit_of, past_at};
+use super::lent::{Lent, STACK};
 use super::parts::{Part, push};
-use ast::refusals;
+use ast::refusals::Refusal;
 
 // Where a run cannot be read: the leftmost byte that may not stand there, or the run's end.
 #[derive(Clone, Copy, Debug, PartialEq, Eq)]
@@ -46,86 +47,98 @@ pub struct Scanned {
     pub calls: usize,
 }
 
-// A run that is refused as a whole: the refusal's number and place.
+// A run that is refused as a whole, with the place that the refusal has.
 #[derive(Clone, Copy, Debug, PartialEq, Eq)]
-pub struct Refusal {
-    pub number: u32,
+pub struct RefusedRun {
+    pub refusal: Refusal,
     pub place: usize,
 }
 
-impl From<Fault> for Refusal {
-    ghost from_gives = { λ fault refusal. refusal ≡ refused_unread (unread_at fault) };
+impl From<Fault> for RefusedRun {
+    ghost from_gives = { λ fault refused. refused ≡ refused_unread (unread_at fault) };
 
-    fn from(fault: Fault) -> Refusal {
-        Refusal {
-            number: refusals::UNREAD,
+    fn from(fault: Fault) -> RefusedRun {
+        RefusedRun {
+            refusal: Refusal::Unread,
             place: fault.place,
         }
     }
 }
 
 // A stack without room for the run has room for no run that is short enough.
-impl From<Unread> for Refusal {
-    ghost from_gives = { λ unread refusal. refusal ≡ refused_unread unread };
+impl From<Unread> for RefusedRun {
+    ghost from_gives = { λ unread refused. refused ≡ refused_unread unread };
 
-    fn from(unread: Unread) -> Refusal {
+    fn from(unread: Unread) -> RefusedRun {
         match unread {
-            Unread::Bad(place) => Refusal {
-                number: refusals::UNREAD,
+            Unread::Bad(place) => RefusedRun {
+                refusal: Refusal::Unread,
                 place,
             },
-            Unread::Short => Refusal {
-                number: refusals::BYTES,
+            Unread::Short => RefusedRun {
+                refusal: Refusal::Bytes,
                 place: 0,
             },
         }
     }
 }
 
-// One term from an offset on. A word of the stack is a part.
+impl Lent<'_> {
+    // One term from an offset on. A word of the stack is a part.
+    fn term(&mut self, from: usize) -> Result<usize, Unread>
+        ensures same { self.new.bytes ≡ self.old.bytes }
+        ensures value { result ≡ next_of (term_at self.old.bytes.now from) }
+    {
+        let s = self.bytes;
+        let stack = &mut *self.stack;
+        stack[0] = Part::Term.word(0);
+        let mut height: usize = 1;
+        let mut at = from;
+        while 0 < height {
+            if s.len() <= at {
+                return Err(Unread::Bad(at));
+            }
+            let top = height - 1;
+            let due = Part::of(stack[top]);
+            let Some(parts) = due.after(s[at]) else {
+                return Err(Unread::Bad(at));
+            };
+            height = push(stack, top, parts, 0);
+            at = at + 1;
+        }
+        Ok(at)
+    }
+
+    // So many terms, one after the other.
+    #[tactic(auto, using(crate::proofs::Terms::terms_on, crate::proofs::Terms::terms_done))]
+    fn terms(&mut self, from: usize, count: usize) -> Result<usize, Unread>
+        ensures same { self.new.bytes ≡ self.old.bytes }
+        ensures value { result ≡ next_of (terms_at count self.old.bytes.now from) }
+    {
+        let mut at = from;
+        for _ in 0..count {
+            at = self.term(at)?;
+        }
+        Ok(at)
+    }
+
+    // One call from an offset on.
+    #[tactic(auto, using(crate::proofs::Terms::call_no_head, crate::proofs::Terms::call_on))]
+    pub fn call(&mut self, from: usize) -> Result<usize, Unread>
+        ensures same { self.new.bytes ≡ self.old.bytes }
+        ensures value { result ≡ next_of (call_at self.old.bytes.now from) }
+    {
+        let head = head_at(self.bytes, from)?;
+        self.terms(from + 3, terms_after(head))
+    }
+}
+
+// One term from an offset on.
 #[tactic(auto, unfolding(crate::specs::Told::next_in))]
 pub fn skip_term(s: &[u8], from: usize, stack: &mut [u8]) -> Result<usize, Unread>
     ensures { result ≡ next_in (short stack.old s.now) (term_at s.now from) }
 {
-    if stack.len() < 2 * s.len() + 1 {
-        return Err(Unread::Short);
-    }
-    stack[0] = Part::Term.word(0);
-    let mut height: usize = 1;
-    let mut at = from;
-    while 0 < height {
-        if s.len() <= at {
-            return Err(Unread::Bad(at));
-        }
-        let top = height - 1;
-        let due = Part::of(stack[top]);
-        let Some(parts) = due.after(s[at]) else {
-            return Err(Unread::Bad(at));
-        };
-        height = push(stack, top, parts, 0);
-        at = at + 1;
-    }
-    Ok(at)
-}
-
-// So many terms, one after the other.
-#[tactic(auto, unfolding(crate::specs::Told::next_in), using(crate::proofs::Terms::terms_on, crate::proofs::Terms::terms_done))]
-pub(crate) fn skip_terms(
-    s: &[u8],
-    from: usize,
-    count: usize,
-    stack: &mut [u8],
-) -> Result<usize, Unread>
-    ensures { result ≡ next_in (short stack.old s.now) (terms_at count s.now from) }
-{
-    if stack.len() < 2 * s.len() + 1 {
-        return Err(Unread::Short);
-    }
-    let mut at = from;
-    for _ in 0..count {
-        at = skip_term(s, at, stack)?;
-    }
-    Ok(at)
+    Lent::new(s, stack)?.term(from)
 }
 
 // How many terms follow the context of a call with this code: none where no call has it.
@@ -172,15 +185,11 @@ pub fn read_head(s: &[u8], from: usize) -> Result<CallHead, Fault>
 }
 
 // One call from an offset on.
-#[tactic(auto, unfolding(crate::specs::Told::next_in), using(crate::proofs::Terms::call_no_head, crate::proofs::Terms::call_on, crate::proofs::Terms::same_in))]
+#[tactic(auto, unfolding(crate::specs::Told::next_in))]
 pub fn skip_call(s: &[u8], from: usize, stack: &mut [u8]) -> Result<usize, Unread>
     ensures { result ≡ next_in (short stack.old s.now) (call_at s.now from) }
 {
-    if stack.len() < 2 * s.len() + 1 {
-        return Err(Unread::Short);
-    }
-    let head = head_at(s, from)?;
-    skip_terms(s, from + 3, terms_after(head), stack)
+    Lent::new(s, stack)?.call(from)
 }
 
 pub fn read_limit(s: &[u8]) -> Result<usize, Fault>
@@ -198,13 +207,13 @@ pub fn read_limit(s: &[u8]) -> Result<usize, Fault>
     Ok(limit)
 }
 
-// The calls after the nesting limit. Two bytes of stack for each byte of the longest run, and one more.
+// The calls after the nesting limit.
 #[tactic(auto, using(crate::proofs::Runs::past_call, crate::proofs::Runs::calls_bad, crate::proofs::Runs::calls_done, crate::proofs::Runs::room))]
-fn count_calls(s: &[u8], limit: usize) -> Result<Scanned, Refusal>
+fn count_calls(s: &[u8], limit: usize) -> Result<Scanned, RefusedRun>
     requires { length s.now ≤ 65536 }
     ensures { result ≡ counted limit 0 (read_calls (length s.now) (length s.now) (drop 2 s.now) 2) }
 {
-    let mut stack = [0u8; 131073];
+    let mut stack = [0u8; STACK];
     let mut at: usize = 2;
     let mut calls: usize = 0;
     while at < s.len() {
@@ -216,12 +225,12 @@ fn count_calls(s: &[u8], limit: usize) -> Result<Scanned, Refusal>
 
 // A whole run: refusals 2 and 3, or its limit and the number of its calls.
 #[tactic(auto, unfolding(crate::specs::Told::unless_long), using(crate::proofs::Runs::run_bad, crate::proofs::Runs::run_on))]
-pub fn scan_run(s: &[u8]) -> Result<Scanned, Refusal>
+pub fn scan_run(s: &[u8]) -> Result<Scanned, RefusedRun>
     ensures { result ≡ scanned s.now }
 {
     if 65536 < s.len() {
-        return Err(Refusal {
-            number: refusals::BYTES,
+        return Err(RefusedRun {
+            refusal: Refusal::Bytes,
             place: 0,
         });
     }

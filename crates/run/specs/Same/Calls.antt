@@ -10,7 +10,8 @@ use Rattle.walk.specs.Syntax.{Term, Context, Nil, Cons}
 use Rattle.walk.specs.Reader.{Code, c_context, c_universe, c_infer, c_check, c_normalise, c_equal, terms_of, Call}
 use Rattle.walk.specs.Limits.{fits, size_terms, size_call}
 use Rattle.walk.specs.Run.{scope_of, nth}
-use Rattle.syntax.specs.Told.{code_told, head_in}
+use Rattle.syntax.specs.Told.{code_number, head_in}
+use Rattle.syntax.specs.Heads.{code_again}
 use Rattle.syntax.specs.Calls.{TermsAt, no_terms, next_term, CallAt, CallFits, call_fits, size_terms_first}
 use Rattle.syntax.specs.Fuel.{fit_term}
 use Rattle.link.specs.Asked.{build_term, build_context, call_ctx, call_universe, call_infer, call_check, call_normalize, call_equal}
@@ -83,7 +84,7 @@ module _ (c : Callees) (types : List Term) where
 
 module _ (bytes : List ℕ) (left d : ℕ) (types : List Term) where
   -- the terms of a call, by its code
-  coded : (at : ℕ) (code : Code) (ts : List Term) {end : ℕ} → length ts ≡ terms_of code → Sent bytes at ts end → (prepared (callees left) make_nil >>= λ nil. scope_cells types nil >>= λ g. by_code left bytes at (code_told code) d g) ≡ by_call (callees left) code d (scope_of Nil types) ts
+  coded : (at : ℕ) (code : Code) (ts : List Term) {end : ℕ} → length ts ≡ terms_of code → Sent bytes at ts end → (prepared (callees left) make_nil >>= λ nil. scope_cells types nil >>= λ g. by_code left bytes at (code_number code) d g) ≡ by_call (callees left) code d (scope_of Nil types) ts
   unfolding by_code with_term with_sides by_call when◌then◌else◌ call_ctx call_universe call_infer call_check call_normalize call_equal
   coded at c_context [] l no_sent = row_asked (callees left) types _ (λ g. (callees left).ctx d g) (λ g. refl)
   coded at c_universe (t ∷ []) l (next_sent {middle = m₁} e no_sent) = result_asked (callees left) types row_first first_in _ (λ g. build_term t >>= λ x. (callees left).universe d g x) (λ g. rw e (made_then m₁ (build_term t) _ ∙ sym (first_in _ (build_term t) _)))
@@ -115,6 +116,6 @@ called_is bytes short left at {call} {next} {n} C z =
     let u₁ : up at ≡ at + 1 = up_is at (omega (arith, C.far, C.inside)) in
     let u₂ : up (at + 1) ≡ at + 2 = up_is (at + 1) (omega (arith, C.far, C.inside)) ∙ omega arith in
     let u₃ : up (at + 2) ≡ at + 3 = up_is (at + 2) (omega (arith, C.far, C.inside)) ∙ omega arith in
-    rw (u₁, u₂, u₃)
+    rw (u₁, u₂, u₃, code_again call.code)
     (then_same (prepared (callees left) (intern 32 0 0 0)) (λ nil. rw (scoped_is bytes (at + 3) call.types (all_sent bytes short 0 C.types F.types) nil) (made_then C.middle (scope_cells call.types nil) _))
     ∙ coded bytes left call.dims call.types C.middle call.code call.terms C.many (all_sent bytes short F.middle C.terms F.terms))

@@ -24,6 +24,7 @@ use Rattle.link.specs.Asked.{Said, lowest_of, ask, ask_sized, ask_all, afresh, s
 use Rattle.link.specs.Asked as L
 use Rattle.link.proofs.Words.{said_calls}
 use Rattle.run.specs.Call.{row_alone, row_first, row_quoted, called}
+use Rattle.ast.specs.Refusals.{refusal_number}
 use Rattle.run.specs.Run.{low_of, at_most, started, Told, refused_of, told, turned_by, turned, played, Ended, end_run, refused_run, read_run as ended_read, run_by, run_of}
 use Rattle.run.specs.Same.Terms.{up_is}
 use Rattle.run.specs.Same.Calls.{by_call, called_is}
@@ -65,7 +66,7 @@ low_is n l = omega arith
 module _ (bytes : List ℕ) (short : length bytes ≤ 65536) where
   -- one call
   turn_is : (at : ℕ) {call : Call} {next : ℕ} → CallAt bytes at call next → (w : Machine) → turned 131073 bytes at w ≡ told_of (ask_sized (size_call call) call w) next
-  unfolding turned size_in size_of turned_by sized ask_sized refused_of called afresh
+  unfolding turned size_in size_of turned_by sized ask_sized refused_of refusal_number called afresh
   turn_is at {call} {next} C w = rw (C.reads, room (ltb 131073 (2 * length bytes + 1)) refl) (go (size_call call) refl)
     where
       room : (b : Bool) → ltb 131073 (2 * length bytes + 1) ≡ b → b ≡ false
@@ -139,7 +140,7 @@ module _ (bytes rows cells answers : List ℕ) where
         rw (low_is (length calls) (omega arith), started_is limit rows cells I.header.high, played_is bytes short 2 0 calls I.all (omega arith) (start limit rows cells) answers, written [] (four_words (ask_all calls (start limit rows cells)).0) answers 0 refl (omega arith))
 
     all_read : run_by (calls_read limit (length calls)) bytes rows cells answers ≡ ended (run_read (length rows) (length cells) (length answers) (got (limit, calls) [] 0)) rows cells answers
-    unfolding run_by run_read
+    unfolding run_by run_read refusal_number
     all_read = rw (enough (length calls)) (go (ltb (length answers) (4 * length calls)) refl)
       where
         go : (b : Bool) → ltb (length answers) (4 * length calls) ≡ b → ifb b (end_run (refused_run Refusal.answers 0) rows cells answers) (ended_read (low_of (length calls)) (played (low_of (length calls)) 131073 bytes 2 0 (machine rows cells (started limit (length rows) (length cells))) answers)) ≡ ended (elim b as (λ _. Ran) [ true ↦ R.refused_run Refusal.answers 0 | false ↦ R.played limit calls (R.play_all calls (R.start limit (length rows) (length cells))) ]) rows cells answers
@@ -147,7 +148,7 @@ module _ (bytes rows cells answers : List ℕ) where
         go false e = all_played (omega (arith, ltb-false (length answers) (4 * length calls) e))
 
   pub run_is : run_of bytes rows cells answers ≡ ended (run (length rows) (length cells) (length answers) bytes) rows cells answers
-  unfolding run_of run run_by run_read unless_long scan_told
+  unfolding run_of run run_by run_read unless_long scan_told refusal_number
   run_is = go (ltb (length rows) 24) (ltb (length cells) 8) (ltb 65536 (length bytes)) refl (read_run bytes) refl
     where
       go : (a b c : Bool) → ltb 65536 (length bytes) ≡ c → (r : Read (ℕ × List Call)) → read_run bytes ≡ r → ifb a (end_run (refused_run Refusal.slices 0) rows cells answers) (ifb b (end_run (refused_run Refusal.slices 0) rows cells answers) (run_by (unless_long c (scan_told r)) bytes rows cells answers)) ≡ ended (elim (a || b) as (λ _. Ran) [ true ↦ R.refused_run Refusal.slices 0 | false ↦ elim c as (λ _. Ran) [ true ↦ R.refused_run Refusal.bytes 0 | false ↦ run_read (length rows) (length cells) (length answers) r ] ]) rows cells answers

@@ -1,56 +1,55 @@
 -- Made by tools/prove.py: to make it again, run `python3 tools/prove.py producer`.
-use Rattle.std.proofs.Common.{◌≡◌, arith}
-use borrow.Author.Tests.{eq-eqb, ne_eqb}
+use Rattle.std.proofs.Common.{refl}
 use Rattle.ast.specs.Words.{up}
 use Rattle.producer.specs.Transforms.{compound, transform_app, transform_binder, transform_body, transform_lam, transform_pair, transform_papp, transform_path, transform_plam, transform_projection, under_body, under_subst}
 use Rattle.producer.proofs.At as law
 use Rattle.producer.proofs.Steps.{steps, stated}
 use Rattle.producer.proofs.State.+transform.Goals as goal
 
-pub compound-returns-in-5 : goal.compound-returns-in-5
+pub compound-returns-in-Pi : goal.compound-returns-in-Pi
 unfolding compound steps stated
-compound-returns-in-5 t c = rw (c.in-5.is, ← c.tbinder.ensures)
+compound-returns-in-Pi t c = rw (law.kind_is _ c.of.ensures c.in-Pi.is, ← c.tbinder.ensures)
 
-pub compound-returns-in-6 : goal.compound-returns-in-6
+pub compound-returns-in-Lam : goal.compound-returns-in-Lam
 unfolding compound steps stated
-compound-returns-in-6 t c = rw (c.in-6.is, ← c.tlam.ensures)
+compound-returns-in-Lam t c = rw (law.kind_is _ c.of.ensures c.in-Lam.is, ← c.tlam.ensures)
 
-pub compound-returns-in-7 : goal.compound-returns-in-7
+pub compound-returns-in-App : goal.compound-returns-in-App
 unfolding compound steps stated
-compound-returns-in-7 t c = rw (c.in-7.is, ← c.tapp.ensures)
+compound-returns-in-App t c = rw (law.kind_is _ c.of.ensures c.in-App.is, ← c.tapp.ensures)
 
-pub compound-returns-in-8 : goal.compound-returns-in-8
+pub compound-returns-in-Path : goal.compound-returns-in-Path
 unfolding compound steps stated
-compound-returns-in-8 t c = rw (c.in-8.is, ← c.tpath.ensures)
+compound-returns-in-Path t c = rw (law.kind_is _ c.of.ensures c.in-Path.is, ← c.tpath.ensures)
 
-pub compound-returns-in-9 : goal.compound-returns-in-9
+pub compound-returns-in-Plam : goal.compound-returns-in-Plam
 unfolding compound steps stated
-compound-returns-in-9 t c = rw (c.in-9.is, ← c.tplam.ensures)
+compound-returns-in-Plam t c = rw (law.kind_is _ c.of.ensures c.in-Plam.is, ← c.tplam.ensures)
 
-pub compound-returns-in-10 : goal.compound-returns-in-10
+pub compound-returns-in-Papp : goal.compound-returns-in-Papp
 unfolding compound steps stated
-compound-returns-in-10 t c = rw (c.in-10.is, ← c.tpapp.ensures)
+compound-returns-in-Papp t c = rw (law.kind_is _ c.of.ensures c.in-Papp.is, ← c.tpapp.ensures)
 
-pub compound-returns-in-11 : goal.compound-returns-in-11
+pub compound-returns-in-Sigma : goal.compound-returns-in-Sigma
 unfolding compound steps stated
-compound-returns-in-11 t c = rw (c.in-11.is, ← c.tbinder-in-11.ensures)
+compound-returns-in-Sigma t c = rw (law.kind_is _ c.of.ensures c.in-Sigma.is, ← c.tbinder-in-Sigma.ensures)
 
-pub compound-returns-in-12 : goal.compound-returns-in-12
+pub compound-returns-in-Pair : goal.compound-returns-in-Pair
 unfolding compound steps stated
-compound-returns-in-12 t c = rw (c.in-12.is, ← c.tpair.ensures)
+compound-returns-in-Pair t c = rw (law.kind_is _ c.of.ensures c.in-Pair.is, ← c.tpair.ensures)
 
-pub compound-returns-in-13 : goal.compound-returns-in-13
+pub compound-returns-in-Fst : goal.compound-returns-in-Fst
 unfolding compound steps stated
-compound-returns-in-13 t c = rw (c.in-13.is, ← c.tproject.ensures)
+compound-returns-in-Fst t c = rw (law.kind_is _ c.of.ensures c.in-Fst.is, ← c.tproject.ensures)
 
-pub compound-returns-in-14 : goal.compound-returns-in-14
+pub compound-returns-in-Snd : goal.compound-returns-in-Snd
 unfolding compound steps stated
-compound-returns-in-14 t c = rw (c.in-14.is, ← c.tproject-in-14.ensures)
+compound-returns-in-Snd t c = rw (law.kind_is _ c.of.ensures c.in-Snd.is, ← c.tproject-in-Snd.ensures)
 
 pub compound-returns-in_default : goal.compound-returns-in_default
 unfolding compound steps stated
-compound-returns-in_default t c = rw (ne_eqb _ _ (let n : c.args.cell.kind ≡ 5 → ⊥ = omega arith in n), ne_eqb _ _ (let n : c.args.cell.kind ≡ 6 → ⊥ = omega arith in n), ne_eqb _ _ (let n : c.args.cell.kind ≡ 7 → ⊥ = omega arith in n), ne_eqb _ _ (let n : c.args.cell.kind ≡ 8 → ⊥ = omega arith in n), ne_eqb _ _ (let n : c.args.cell.kind ≡ 9 → ⊥ = omega arith in n), ne_eqb _ _ (let n : c.args.cell.kind ≡ 10 → ⊥ = omega arith in n))
-    (rw (ne_eqb _ _ (let n : c.args.cell.kind ≡ 11 → ⊥ = omega arith in n), ne_eqb _ _ (let n : c.args.cell.kind ≡ 12 → ⊥ = omega arith in n), ne_eqb _ _ (let n : c.args.cell.kind ≡ 13 → ⊥ = omega arith in n), ne_eqb _ _ (let n : c.args.cell.kind ≡ 14 → ⊥ = omega arith in n), ← c.rule_of.ensures, ← c.cite.ensures)
+compound-returns-in_default t c = rw (law.kind_isnt _ c.of.ensures c.in_default.not-Pi refl, law.kind_isnt _ c.of.ensures c.in_default.not-Lam refl, law.kind_isnt _ c.of.ensures c.in_default.not-App refl, law.kind_isnt _ c.of.ensures c.in_default.not-Path refl, law.kind_isnt _ c.of.ensures c.in_default.not-Plam refl, law.kind_isnt _ c.of.ensures c.in_default.not-Papp refl)
+    (rw (law.kind_isnt _ c.of.ensures c.in_default.not-Sigma refl, law.kind_isnt _ c.of.ensures c.in_default.not-Pair refl, law.kind_isnt _ c.of.ensures c.in_default.not-Fst refl, law.kind_isnt _ c.of.ensures c.in_default.not-Snd refl, ← c.rule_of.ensures, ← c.cite.ensures)
     (rw (← c.finish.ensures)))
 
 pub tapp-returns-in_err-s1 : goal.tapp-returns-in_err-s1
@@ -63,7 +62,7 @@ tapp-returns-in_err-s2 t c = rw (← c.in_ok-s1.ensures, law.residual _ _ c.from
 
 pub tapp-returns : goal.tapp-returns
 unfolding transform_app steps stated
-tapp-returns t c = rw (← c.in_ok-s1.ensures, ← c.in_ok-s2.ensures, ← c.cite.ensures, ← c.tmake.ensures)
+tapp-returns t c = rw (← c.in_ok-s1.ensures, ← c.in_ok-s2.ensures, law.node c.new-node.ensures, ← c.cite.ensures, law.node_rule _ c.new-node.ensures, ← c.tmake.ensures)
 
 pub tbinder-returns-in_err-s1 : goal.tbinder-returns-in_err-s1
 unfolding transform_binder steps stated
@@ -79,8 +78,8 @@ tbinder-returns-in_err-s3 t c = rw (← c.in_ok-s1.ensures, ← c.in_ok-s2.ensur
 
 pub tbinder-returns : goal.tbinder-returns
 unfolding transform_binder steps stated
-tbinder-returns t c = rw (← c.in_ok-s1.ensures, ← c.in_ok-s2.ensures, ← c.in_ok-s3.ensures, ← c.cite.ensures, ← c.cite_first.ensures, ← c.cite_before.ensures)
-    (rw (← c.tmake.ensures))
+tbinder-returns t c = rw (← c.in_ok-s1.ensures, ← c.in_ok-s2.ensures, ← c.in_ok-s3.ensures, law.node c.new-node.ensures, ← c.cite.ensures, ← c.cite_first.ensures)
+    (rw (← c.cite_before.ensures, law.node_rule _ c.new-node.ensures, ← c.tmake.ensures))
 
 pub tlam-returns-in_err-s1 : goal.tlam-returns-in_err-s1
 unfolding transform_lam steps stated
@@ -96,7 +95,8 @@ tlam-returns-in_err-s3 t c = rw (← c.in_ok-s1.ensures, ← c.in_ok-s2.ensures,
 
 pub tlam-returns : goal.tlam-returns
 unfolding transform_lam steps stated
-tlam-returns t c = rw (← c.in_ok-s1.ensures, ← c.in_ok-s2.ensures, ← c.in_ok-s3.ensures, ← c.cite.ensures, ← c.cite_first.ensures, ← c.tmake.ensures)
+tlam-returns t c = rw (← c.in_ok-s1.ensures, ← c.in_ok-s2.ensures, ← c.in_ok-s3.ensures, law.node c.new-node.ensures, ← c.cite.ensures, ← c.cite_first.ensures)
+    (rw (law.node_rule _ c.new-node.ensures, ← c.tmake.ensures))
 
 pub tpair-returns-in_err-s1 : goal.tpair-returns-in_err-s1
 unfolding transform_pair steps stated
@@ -112,7 +112,8 @@ tpair-returns-in_err-s3 t c = rw (← c.in_ok-s1.ensures, ← c.in_ok-s2.ensures
 
 pub tpair-returns : goal.tpair-returns
 unfolding transform_pair steps stated
-tpair-returns t c = rw (← c.in_ok-s1.ensures, ← c.in_ok-s2.ensures, ← c.in_ok-s3.ensures, ← c.cite.ensures, ← c.tmake.ensures)
+tpair-returns t c = rw (← c.in_ok-s1.ensures, ← c.in_ok-s2.ensures, ← c.in_ok-s3.ensures, law.node c.new-node.ensures, ← c.cite.ensures, law.node_rule _ c.new-node.ensures)
+    (rw (← c.tmake.ensures))
 
 pub tpapp-returns-in_err-s1 : goal.tpapp-returns-in_err-s1
 unfolding transform_papp steps stated
@@ -124,7 +125,7 @@ tpapp-returns-in_err-s2 t c = rw (← c.in_ok-s1.ensures, law.residual _ _ c.fro
 
 pub tpapp-returns : goal.tpapp-returns
 unfolding transform_papp steps stated
-tpapp-returns t c = rw (← c.in_ok-s1.ensures, ← c.in_ok-s2.ensures, ← c.cite_before.ensures, ← c.tmake.ensures)
+tpapp-returns t c = rw (← c.in_ok-s1.ensures, ← c.in_ok-s2.ensures, law.node c.new-node.ensures, ← c.cite_before.ensures, law.node_rule _ c.new-node.ensures, ← c.tmake.ensures)
 
 pub tpath-returns-in_err-s0 : goal.tpath-returns-in_err-s0
 unfolding transform_path steps stated
@@ -144,8 +145,8 @@ tpath-returns-in_err-s3 t c = rw (← c.in_ok-s0.ensures, ← c.in_ok-s1.ensures
 
 pub tpath-returns : goal.tpath-returns
 unfolding transform_path steps stated
-tpath-returns t c = rw (← c.in_ok-s0.ensures, ← c.in_ok-s1.ensures, ← c.in_ok-s2.ensures, ← c.in_ok-s3.ensures, ← c.cite.ensures, ← c.cite_first.ensures)
-    (rw (← c.tmake.ensures))
+tpath-returns t c = rw (← c.in_ok-s0.ensures, ← c.in_ok-s1.ensures, ← c.in_ok-s2.ensures, ← c.in_ok-s3.ensures, law.node c.new-node.ensures, ← c.cite.ensures)
+    (rw (← c.cite_first.ensures, law.node_rule _ c.new-node.ensures, ← c.tmake.ensures))
 
 pub tplam-returns-in_err-s0 : goal.tplam-returns-in_err-s0
 unfolding transform_plam steps stated
@@ -161,7 +162,8 @@ tplam-returns-in_err-s2 t c = rw (← c.in_ok-s0.ensures, ← c.in_ok-s1.ensures
 
 pub tplam-returns : goal.tplam-returns
 unfolding transform_plam steps stated
-tplam-returns t c = rw (← c.in_ok-s0.ensures, ← c.in_ok-s1.ensures, ← c.in_ok-s2.ensures, ← c.cite.ensures, ← c.cite_first.ensures, ← c.tmake.ensures)
+tplam-returns t c = rw (← c.in_ok-s0.ensures, ← c.in_ok-s1.ensures, ← c.in_ok-s2.ensures, law.node c.new-node.ensures, ← c.cite.ensures, ← c.cite_first.ensures)
+    (rw (law.node_rule _ c.new-node.ensures, ← c.tmake.ensures))
 
 pub tproject-returns-in_err-s1 : goal.tproject-returns-in_err-s1
 unfolding transform_projection steps stated
@@ -169,19 +171,19 @@ tproject-returns-in_err-s1 t c = rw (law.residual _ _ c.from_residual.ensures.1,
 
 pub tproject-returns : goal.tproject-returns
 unfolding transform_projection steps stated
-tproject-returns t c = rw (← c.in_ok-s1.ensures, ← c.cite.ensures, ← c.tmake.ensures)
+tproject-returns t c = rw (← c.in_ok-s1.ensures, law.node c.new-node.ensures, ← c.cite.ensures, law.node_rule _ c.new-node.ensures, ← c.tmake.ensures)
 
 pub transform-returns-then-left-eq0 : goal.transform-returns-then-left-eq0
 unfolding transform_body steps stated
 transform-returns-then-left-eq0 t c = rw (law.transform_none _ _ _ _ c.if-left-eq0.true, c.refused.ensures)
 
-pub transform-returns-then-cell-eq-VAR : goal.transform-returns-then-cell-eq-VAR
+pub transform-returns-in-Var : goal.transform-returns-in-Var
 unfolding transform_body steps stated
-transform-returns-then-cell-eq-VAR t c = rw (law.transform_in _ _ _ _ c.if-left-eq0.false, ← c.deeper-s0.ensures, ← c.read-cell.ensures, eq-eqb _ _ c.if-cell-eq-VAR.true, ← c.tvar.ensures)
+transform-returns-in-Var t c = rw (law.transform_in _ _ _ _ c.if-left-eq0.false, ← c.deeper-s0.ensures, ← c.read-cell.ensures, law.kind_is _ c.of.ensures c.in-Var.is, ← c.tvar.ensures)
 
 pub transform-returns : goal.transform-returns
 unfolding transform_body steps stated
-transform-returns t c = rw (law.transform_in _ _ _ _ c.if-left-eq0.false, ← c.deeper-s0.ensures, ← c.read-cell.ensures, ne_eqb _ _ c.if-cell-eq-VAR.false, ← c.compound.ensures)
+transform-returns t c = rw (law.transform_in _ _ _ _ c.if-left-eq0.false, ← c.deeper-s0.ensures, ← c.read-cell.ensures, law.kind_isnt _ c.of.ensures c.in_default.not-Var refl, ← c.compound.ensures)
 
 pub under-returns-then-left-eq0 : goal.under-returns-then-left-eq0
 unfolding under_body up steps stated

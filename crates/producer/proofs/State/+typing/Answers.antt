@@ -1,5 +1,5 @@
 -- Made by tools/prove.py: to make it again, run `python3 tools/prove.py producer`.
-use Rattle.std.proofs.Common.{◌≡◌, arith}
+use Rattle.std.proofs.Common.{arith, refl}
 use borrow.Author.Tests.{eq-eqb, le-ltb, lt-ltb, ne_eqb}
 use Rattle.ast.specs.Words.{up}
 use Rattle.producer.specs.Equality.{at_end, at_ends, beta, equal_body, equal_normal, fst_beta, normalize_body, pbeta, reduce_body, reduce_papp, round, snd_beta}
@@ -35,11 +35,11 @@ atom-returns-in_err-s1 t c = rw (law.residual _ _ c.from_residual.ensures.1, ←
 
 pub atom-returns-in_err-s2 : goal.atom-returns-in_err-s2
 unfolding find_atom steps stated
-atom-returns-in_err-s2 t c = rw (← c.in_ok-s1.ensures, law.residual _ _ c.from_residual-in_err-s2.ensures.1, ← c.in_err-s2.ensures)
+atom-returns-in_err-s2 t c = rw (← c.in_ok-s1.ensures, law.node c.new.ensures, law.residual _ _ c.from_residual-in_err-s2.ensures.1, ← c.in_err-s2.ensures)
 
 pub atom-returns : goal.atom-returns
 unfolding find_atom steps stated
-atom-returns t c = rw (← c.in_ok-s1.ensures, ← c.in_ok-s2.ensures, ← c.cite.ensures)
+atom-returns t c = rw (← c.in_ok-s1.ensures, law.node c.new.ensures, ← c.in_ok-s2.ensures, ← c.cite.ensures)
 
 pub beta-returns-in_err-s1 : goal.beta-returns-in_err-s1
 unfolding beta steps stated
@@ -47,29 +47,30 @@ beta-returns-in_err-s1 t c = rw (law.residual _ _ c.from_residual.ensures.1, ←
 
 pub beta-returns-in_err-s2 : goal.beta-returns-in_err-s2
 unfolding beta steps stated
-beta-returns-in_err-s2 t c = rw (← c.in_ok-s1.ensures, law.residual _ _ c.from_residual-in_err-s2.ensures.1, ← c.in_err-s2.ensures)
+beta-returns-in_err-s2 t c = rw (← c.in_ok-s1.ensures, law.node c.new-context.ensures, law.residual _ _ c.from_residual-in_err-s2.ensures.1, ← c.in_err-s2.ensures)
 
 pub beta-returns-in_err-s3 : goal.beta-returns-in_err-s3
 unfolding beta steps stated
-beta-returns-in_err-s3 t c = rw (← c.in_ok-s1.ensures, ← c.in_ok-s2.ensures, law.residual _ _ c.from_residual-in_err-s3.ensures.1, ← c.in_err-s3.ensures)
+beta-returns-in_err-s3 t c = rw (← c.in_ok-s1.ensures, law.node c.new-context.ensures, ← c.in_ok-s2.ensures, law.residual _ _ c.from_residual-in_err-s3.ensures.1, ← c.in_err-s3.ensures)
 
 pub beta-returns-in_err-s4 : goal.beta-returns-in_err-s4
 unfolding beta steps stated
-beta-returns-in_err-s4 t c = rw (← c.in_ok-s1.ensures, ← c.in_ok-s2.ensures, ← c.in_ok-s3.ensures, law.residual _ _ c.from_residual-in_err-s4.ensures.1, ← c.in_err-s4.ensures)
+beta-returns-in_err-s4 t c = rw (← c.in_ok-s1.ensures, law.node c.new-context.ensures, ← c.in_ok-s2.ensures, ← c.in_ok-s3.ensures, law.residual _ _ c.from_residual-in_err-s4.ensures.1, ← c.in_err-s4.ensures)
 
 pub beta-returns-in_err-s5 : goal.beta-returns-in_err-s5
 unfolding beta steps stated
-beta-returns-in_err-s5 t c = rw (← c.in_ok-s1.ensures, ← c.in_ok-s2.ensures, ← c.in_ok-s3.ensures, ← c.in_ok-s4.ensures, law.residual _ _ c.from_residual-in_err-s5.ensures.1, ← c.in_err-s5.ensures)
+beta-returns-in_err-s5 t c = rw (← c.in_ok-s1.ensures, law.node c.new-context.ensures, ← c.in_ok-s2.ensures, ← c.in_ok-s3.ensures, ← c.in_ok-s4.ensures, law.residual _ _ c.from_residual-in_err-s5.ensures.1)
+    (rw (← c.in_err-s5.ensures))
 
 pub beta-returns-in_err-s6 : goal.beta-returns-in_err-s6
 unfolding beta steps stated
-beta-returns-in_err-s6 t c = rw (← c.in_ok-s1.ensures, ← c.in_ok-s2.ensures, ← c.in_ok-s3.ensures, ← c.in_ok-s4.ensures, ← c.in_ok-s5.ensures, law.residual _ _ c.from_residual-in_err-s6.ensures.1)
-    (rw (← c.in_err-s6.ensures))
+beta-returns-in_err-s6 t c = rw (← c.in_ok-s1.ensures, law.node c.new-context.ensures, ← c.in_ok-s2.ensures, ← c.in_ok-s3.ensures, ← c.in_ok-s4.ensures, ← c.in_ok-s5.ensures)
+    (rw (law.residual _ _ c.from_residual-in_err-s6.ensures.1, ← c.in_err-s6.ensures))
 
 pub beta-returns : goal.beta-returns
 unfolding beta steps stated
-beta-returns t c = rw (← c.in_ok-s1.ensures, ← c.in_ok-s2.ensures, ← c.in_ok-s3.ensures, ← c.in_ok-s4.ensures, ← c.in_ok-s5.ensures, ← c.in_ok-s6.ensures)
-    (rw (← c.beta_row.ensures))
+beta-returns t c = rw (← c.in_ok-s1.ensures, law.node c.new-context.ensures, ← c.in_ok-s2.ensures, ← c.in_ok-s3.ensures, ← c.in_ok-s4.ensures, ← c.in_ok-s5.ensures)
+    (rw (← c.in_ok-s6.ensures, ← c.beta_row.ensures))
 
 pub check-returns-then-left-eq0 : goal.check-returns-then-left-eq0
 unfolding check_body steps stated
@@ -107,43 +108,44 @@ conv-returns-then-i-j t c = rw (← c.in_ok-s1.ensures, ← c.in_ok-s2.ensures, 
 
 pub conv-returns-in_err-s3 : goal.conv-returns-in_err-s3
 unfolding converted steps stated
-conv-returns-in_err-s3 t c = rw (← c.in_ok-s1.ensures, ← c.in_ok-s2.ensures, eq-eqb _ _ c.if-i-j.false, law.residual _ _ c.from_residual-in_err-s3.ensures.1, ← c.in_err-s3.ensures)
+conv-returns-in_err-s3 t c = rw (← c.in_ok-s1.ensures, ← c.in_ok-s2.ensures, eq-eqb _ _ c.if-i-j.false, law.node c.new.ensures, law.residual _ _ c.from_residual-in_err-s3.ensures.1, ← c.in_err-s3.ensures)
 
 pub conv-returns-in_err-s4 : goal.conv-returns-in_err-s4
 unfolding converted steps stated
-conv-returns-in_err-s4 t c = rw (← c.in_ok-s1.ensures, ← c.in_ok-s2.ensures, eq-eqb _ _ c.if-i-j.false, ← c.in_ok-s3.ensures, law.residual _ _ c.from_residual-in_err-s4.ensures.1, ← c.in_err-s4.ensures)
+conv-returns-in_err-s4 t c = rw (← c.in_ok-s1.ensures, ← c.in_ok-s2.ensures, eq-eqb _ _ c.if-i-j.false, law.node c.new.ensures, ← c.in_ok-s3.ensures, law.residual _ _ c.from_residual-in_err-s4.ensures.1)
+    (rw (← c.in_err-s4.ensures))
 
 pub conv-returns : goal.conv-returns
 unfolding converted steps stated
-conv-returns t c = rw (← c.in_ok-s1.ensures, ← c.in_ok-s2.ensures, eq-eqb _ _ c.if-i-j.false, ← c.in_ok-s3.ensures, ← c.in_ok-s4.ensures, ← c.cite.ensures)
-    (rw (← c.emit_has.ensures))
+conv-returns t c = rw (← c.in_ok-s1.ensures, ← c.in_ok-s2.ensures, eq-eqb _ _ c.if-i-j.false, law.node c.new.ensures, ← c.in_ok-s3.ensures, ← c.in_ok-s4.ensures)
+    (rw (← c.cite.ensures, ← c.emit_has.ensures))
 
 pub ctx-returns-then-left-eq0 : goal.ctx-returns-then-left-eq0
 unfolding ctx_body known_row known_or ctx_cons steps stated
 ctx-returns-then-left-eq0 t c = rw (law.ctx_none _ _ _ _ c.if-left-eq0.true, c.refused.ensures)
 
-pub ctx-returns-then-cell-eq-NIL : goal.ctx-returns-then-cell-eq-NIL
+pub ctx-returns-in-Nil : goal.ctx-returns-in-Nil
 unfolding ctx_body known_row known_or ctx_cons steps stated
-ctx-returns-then-cell-eq-NIL t c = rw (law.ctx_in _ _ _ _ c.if-left-eq0.false, ← c.deeper-s0.ensures, ← c.read-cell.ensures, ← c.find_row.ensures, c.in-None.is, eq-eqb _ _ c.if-cell-eq-NIL.true)
+ctx-returns-in-Nil t c = rw (law.ctx_in _ _ _ _ c.if-left-eq0.false, ← c.deeper-s0.ensures, ← c.read-cell.ensures, ← c.known.ensures, c.in-None.is, law.kind_is _ c.of.ensures c.in-Nil.is)
     (rw (← c.cite.ensures, ← c.emit.ensures))
 
 pub ctx-returns-in_err-s1-in-None : goal.ctx-returns-in_err-s1-in-None
 unfolding ctx_body known_row known_or ctx_cons steps stated
-ctx-returns-in_err-s1-in-None t c = rw (law.ctx_in _ _ _ _ c.if-left-eq0.false, ← c.deeper-s0.ensures, ← c.read-cell.ensures, ← c.find_row.ensures, c.in-None.is, ne_eqb _ _ c.if-cell-eq-NIL.false)
+ctx-returns-in_err-s1-in-None t c = rw (law.ctx_in _ _ _ _ c.if-left-eq0.false, ← c.deeper-s0.ensures, ← c.read-cell.ensures, ← c.known.ensures, c.in-None.is, law.kind_isnt _ c.of.ensures c.in_default.not-Nil refl)
     (rw (law.residual _ _ c.from_residual.ensures.1, ← c.in_err-s1-in-None.ensures))
 
 pub ctx-returns-in_err-s2-in-None : goal.ctx-returns-in_err-s2-in-None
 unfolding ctx_body known_row known_or ctx_cons steps stated
-ctx-returns-in_err-s2-in-None t c = rw (law.ctx_in _ _ _ _ c.if-left-eq0.false, ← c.deeper-s0.ensures, ← c.read-cell.ensures, ← c.find_row.ensures, c.in-None.is, ne_eqb _ _ c.if-cell-eq-NIL.false)
+ctx-returns-in_err-s2-in-None t c = rw (law.ctx_in _ _ _ _ c.if-left-eq0.false, ← c.deeper-s0.ensures, ← c.read-cell.ensures, ← c.known.ensures, c.in-None.is, law.kind_isnt _ c.of.ensures c.in_default.not-Nil refl)
     (rw (← c.in_ok-s1-in-None.ensures, law.residual _ _ c.from_residual-in_err-s2-in-None.ensures.1, ← c.in_err-s2-in-None.ensures))
 
 pub ctx-returns-in-Some : goal.ctx-returns-in-Some
 unfolding ctx_body known_row known_or ctx_cons steps stated
-ctx-returns-in-Some t c = rw (law.ctx_in _ _ _ _ c.if-left-eq0.false, ← c.deeper-s0.ensures, ← c.read-cell.ensures, ← c.find_row.ensures, c.in-Some.is)
+ctx-returns-in-Some t c = rw (law.ctx_in _ _ _ _ c.if-left-eq0.false, ← c.deeper-s0.ensures, ← c.read-cell.ensures, ← c.known.ensures, c.in-Some.is)
 
 pub ctx-returns-in_ok-s2-in-None : goal.ctx-returns-in_ok-s2-in-None
 unfolding ctx_body known_row known_or ctx_cons steps stated
-ctx-returns-in_ok-s2-in-None t c = rw (law.ctx_in _ _ _ _ c.if-left-eq0.false, ← c.deeper-s0.ensures, ← c.read-cell.ensures, ← c.find_row.ensures, c.in-None.is, ne_eqb _ _ c.if-cell-eq-NIL.false)
+ctx-returns-in_ok-s2-in-None t c = rw (law.ctx_in _ _ _ _ c.if-left-eq0.false, ← c.deeper-s0.ensures, ← c.read-cell.ensures, ← c.known.ensures, c.in-None.is, law.kind_isnt _ c.of.ensures c.in_default.not-Nil refl)
     (rw (← c.in_ok-s1-in-None.ensures, ← c.in_ok-s2-in-None.ensures, ← c.cite-in-None.ensures, ← c.emit-in-None.ensures))
 
 pub equal-returns-then-left-eq0 : goal.equal-returns-then-left-eq0
@@ -200,94 +202,96 @@ expose-returns-in_err-s1 t c = rw (law.expose_in _ _ _ _ _ _ _ c.if-left-eq0.fal
 
 pub expose-returns-in_err-s2 : goal.expose-returns-in_err-s2
 unfolding expose_body retyped steps stated
-expose-returns-in_err-s2 t c = rw (law.expose_in _ _ _ _ _ _ _ c.if-left-eq0.false, ← c.deeper-s0.ensures, ← c.in_ok-s1.ensures, law.residual _ _ c.from_residual-in_err-s2.ensures.1, ← c.in_err-s2.ensures)
+expose-returns-in_err-s2 t c = rw (law.expose_in _ _ _ _ _ _ _ c.if-left-eq0.false, ← c.deeper-s0.ensures, ← c.in_ok-s1.ensures, law.node c.new-universe.ensures, law.residual _ _ c.from_residual-in_err-s2.ensures.1, ← c.in_err-s2.ensures)
 
 pub expose-returns-in_err-s3 : goal.expose-returns-in_err-s3
 unfolding expose_body retyped steps stated
-expose-returns-in_err-s3 t c = rw (law.expose_in _ _ _ _ _ _ _ c.if-left-eq0.false, ← c.deeper-s0.ensures, ← c.in_ok-s1.ensures, ← c.in_ok-s2.ensures, law.residual _ _ c.from_residual-in_err-s3.ensures.1, ← c.in_err-s3.ensures)
+expose-returns-in_err-s3 t c = rw (law.expose_in _ _ _ _ _ _ _ c.if-left-eq0.false, ← c.deeper-s0.ensures, ← c.in_ok-s1.ensures, law.node c.new-universe.ensures, ← c.in_ok-s2.ensures, law.residual _ _ c.from_residual-in_err-s3.ensures.1)
+    (rw (← c.in_err-s3.ensures))
 
 pub expose-returns-then-same_quote : goal.expose-returns-then-same_quote
 unfolding expose_body retyped steps stated
-expose-returns-then-same_quote t c = rw (law.expose_in _ _ _ _ _ _ _ c.if-left-eq0.false, ← c.deeper-s0.ensures, ← c.in_ok-s1.ensures, ← c.in_ok-s2.ensures, ← c.in_ok-s3.ensures, ← c.same_quote.ensures)
-    (rw (c.if-same_quote.true))
+expose-returns-then-same_quote t c = rw (law.expose_in _ _ _ _ _ _ _ c.if-left-eq0.false, ← c.deeper-s0.ensures, ← c.in_ok-s1.ensures, law.node c.new-universe.ensures, ← c.in_ok-s2.ensures, ← c.in_ok-s3.ensures)
+    (rw (← c.same_quote.ensures, c.if-same_quote.true))
 
 pub expose-returns-in_err-s4 : goal.expose-returns-in_err-s4
 unfolding expose_body retyped steps stated
-expose-returns-in_err-s4 t c = rw (law.expose_in _ _ _ _ _ _ _ c.if-left-eq0.false, ← c.deeper-s0.ensures, ← c.in_ok-s1.ensures, ← c.in_ok-s2.ensures, ← c.in_ok-s3.ensures, ← c.same_quote.ensures)
-    (rw (c.if-same_quote.false, law.residual _ _ c.from_residual-in_err-s4.ensures.1, ← c.in_err-s4.ensures))
+expose-returns-in_err-s4 t c = rw (law.expose_in _ _ _ _ _ _ _ c.if-left-eq0.false, ← c.deeper-s0.ensures, ← c.in_ok-s1.ensures, law.node c.new-universe.ensures, ← c.in_ok-s2.ensures, ← c.in_ok-s3.ensures)
+    (rw (← c.same_quote.ensures, c.if-same_quote.false, law.residual _ _ c.from_residual-in_err-s4.ensures.1, ← c.in_err-s4.ensures))
 
 pub expose-returns-in_err-s5 : goal.expose-returns-in_err-s5
 unfolding expose_body retyped steps stated
-expose-returns-in_err-s5 t c = rw (law.expose_in _ _ _ _ _ _ _ c.if-left-eq0.false, ← c.deeper-s0.ensures, ← c.in_ok-s1.ensures, ← c.in_ok-s2.ensures, ← c.in_ok-s3.ensures, ← c.same_quote.ensures)
-    (rw (c.if-same_quote.false, ← c.in_ok-s4.ensures, law.residual _ _ c.from_residual-in_err-s5.ensures.1, ← c.in_err-s5.ensures))
+expose-returns-in_err-s5 t c = rw (law.expose_in _ _ _ _ _ _ _ c.if-left-eq0.false, ← c.deeper-s0.ensures, ← c.in_ok-s1.ensures, law.node c.new-universe.ensures, ← c.in_ok-s2.ensures, ← c.in_ok-s3.ensures)
+    (rw (← c.same_quote.ensures, c.if-same_quote.false, ← c.in_ok-s4.ensures, law.residual _ _ c.from_residual-in_err-s5.ensures.1, ← c.in_err-s5.ensures))
 
 pub expose-returns-in_err-s6 : goal.expose-returns-in_err-s6
 unfolding expose_body retyped steps stated
-expose-returns-in_err-s6 t c = rw (law.expose_in _ _ _ _ _ _ _ c.if-left-eq0.false, ← c.deeper-s0.ensures, ← c.in_ok-s1.ensures, ← c.in_ok-s2.ensures, ← c.in_ok-s3.ensures, ← c.same_quote.ensures)
-    (rw (c.if-same_quote.false, ← c.in_ok-s4.ensures, ← c.in_ok-s5.ensures, ← c.cite.ensures, law.residual _ _ c.from_residual-in_err-s6.ensures.1, ← c.in_err-s6.ensures))
+expose-returns-in_err-s6 t c = rw (law.expose_in _ _ _ _ _ _ _ c.if-left-eq0.false, ← c.deeper-s0.ensures, ← c.in_ok-s1.ensures, law.node c.new-universe.ensures, ← c.in_ok-s2.ensures, ← c.in_ok-s3.ensures)
+    (rw (← c.same_quote.ensures, c.if-same_quote.false, ← c.in_ok-s4.ensures, ← c.in_ok-s5.ensures, ← c.cite.ensures, law.residual _ _ c.from_residual-in_err-s6.ensures.1)
+    (rw (← c.in_err-s6.ensures)))
 
 pub expose-returns : goal.expose-returns
 unfolding expose_body retyped steps stated
-expose-returns t c = rw (law.expose_in _ _ _ _ _ _ _ c.if-left-eq0.false, ← c.deeper-s0.ensures, ← c.in_ok-s1.ensures, ← c.in_ok-s2.ensures, ← c.in_ok-s3.ensures, ← c.same_quote.ensures)
-    (rw (c.if-same_quote.false, ← c.in_ok-s4.ensures, ← c.in_ok-s5.ensures, ← c.cite.ensures, ← c.in_ok-s6.ensures))
+expose-returns t c = rw (law.expose_in _ _ _ _ _ _ _ c.if-left-eq0.false, ← c.deeper-s0.ensures, ← c.in_ok-s1.ensures, law.node c.new-universe.ensures, ← c.in_ok-s2.ensures, ← c.in_ok-s3.ensures)
+    (rw (← c.same_quote.ensures, c.if-same_quote.false, ← c.in_ok-s4.ensures, ← c.in_ok-s5.ensures, ← c.cite.ensures, ← c.in_ok-s6.ensures))
 
-pub find-returns-in-1 : goal.find-returns-in-1
+pub find-returns-in-Universe : goal.find-returns-in-Universe
 unfolding find find_compound up steps stated
-find-returns-in-1 t c = rw (← c.read-cell.ensures, c.in-1.is, ← c.atom.ensures)
+find-returns-in-Universe t c = rw (← c.read-cell.ensures, law.kind_is _ c.of.ensures c.in-Universe.is, ← c.atom.ensures)
 
-pub find-returns-in-2 : goal.find-returns-in-2
+pub find-returns-in-Var : goal.find-returns-in-Var
 unfolding find find_compound up steps stated
-find-returns-in-2 t c = rw (← c.read-cell.ensures, c.in-2.is, ← c.var.ensures)
+find-returns-in-Var t c = rw (← c.read-cell.ensures, law.kind_is _ c.of.ensures c.in-Var.is, ← c.var.ensures)
 
-pub find-returns-in-3 : goal.find-returns-in-3
+pub find-returns-in-Nat : goal.find-returns-in-Nat
 unfolding find find_compound up steps stated
-find-returns-in-3 t c = rw (← c.read-cell.ensures, c.in-3.is, ← c.atom-in-3.ensures)
+find-returns-in-Nat t c = rw (← c.read-cell.ensures, law.kind_is _ c.of.ensures c.in-Nat.is, ← c.atom-in-Nat.ensures)
 
-pub find-returns-in-4 : goal.find-returns-in-4
+pub find-returns-in-Zero : goal.find-returns-in-Zero
 unfolding find find_compound up steps stated
-find-returns-in-4 t c = rw (← c.read-cell.ensures, c.in-4.is, ← c.atom-in-4.ensures)
+find-returns-in-Zero t c = rw (← c.read-cell.ensures, law.kind_is _ c.of.ensures c.in-Zero.is, ← c.atom-in-Zero.ensures)
 
-pub find-returns-in-5 : goal.find-returns-in-5
+pub find-returns-in-Pi : goal.find-returns-in-Pi
 unfolding find find_compound up steps stated
-find-returns-in-5 t c = rw (← c.read-cell.ensures, c.in-5.is, ← c.pi.ensures)
+find-returns-in-Pi t c = rw (← c.read-cell.ensures, law.kind_is _ c.of.ensures c.in-Pi.is, ← c.pi.ensures)
 
-pub find-returns-in-6 : goal.find-returns-in-6
+pub find-returns-in-Lam : goal.find-returns-in-Lam
 unfolding find find_compound up steps stated
-find-returns-in-6 t c = rw (← c.read-cell.ensures, c.in-6.is, ← c.lam.ensures)
+find-returns-in-Lam t c = rw (← c.read-cell.ensures, law.kind_is _ c.of.ensures c.in-Lam.is, ← c.lam.ensures)
 
-pub find-returns-in-7 : goal.find-returns-in-7
+pub find-returns-in-App : goal.find-returns-in-App
 unfolding find find_compound up steps stated
-find-returns-in-7 t c = rw (← c.read-cell.ensures, c.in-7.is, ← c.app.ensures)
+find-returns-in-App t c = rw (← c.read-cell.ensures, law.kind_is _ c.of.ensures c.in-App.is, ← c.app.ensures)
 
-pub find-returns-in-8 : goal.find-returns-in-8
+pub find-returns-in-Path : goal.find-returns-in-Path
 unfolding find find_compound up steps stated
-find-returns-in-8 t c = rw (← c.read-cell.ensures, c.in-8.is, ← c.path.ensures)
+find-returns-in-Path t c = rw (← c.read-cell.ensures, law.kind_is _ c.of.ensures c.in-Path.is, ← c.path.ensures)
 
-pub find-returns-in-9 : goal.find-returns-in-9
+pub find-returns-in-Plam : goal.find-returns-in-Plam
 unfolding find find_compound up steps stated
-find-returns-in-9 t c = rw (← c.read-cell.ensures, c.in-9.is, ← c.plam.ensures)
+find-returns-in-Plam t c = rw (← c.read-cell.ensures, law.kind_is _ c.of.ensures c.in-Plam.is, ← c.plam.ensures)
 
-pub find-returns-in-11 : goal.find-returns-in-11
+pub find-returns-in-Sigma : goal.find-returns-in-Sigma
 unfolding find find_compound up steps stated
-find-returns-in-11 t c = rw (← c.read-cell.ensures, c.in-11.is, ← c.pi-in-11.ensures)
+find-returns-in-Sigma t c = rw (← c.read-cell.ensures, law.kind_is _ c.of.ensures c.in-Sigma.is, ← c.pi-in-Sigma.ensures)
 
-pub find-returns-in-12 : goal.find-returns-in-12
+pub find-returns-in-Pair : goal.find-returns-in-Pair
 unfolding find find_compound up steps stated
-find-returns-in-12 t c = rw (← c.read-cell.ensures, c.in-12.is, ← c.pair.ensures)
+find-returns-in-Pair t c = rw (← c.read-cell.ensures, law.kind_is _ c.of.ensures c.in-Pair.is, ← c.pair.ensures)
 
-pub find-returns-in-13 : goal.find-returns-in-13
+pub find-returns-in-Fst : goal.find-returns-in-Fst
 unfolding find find_compound up steps stated
-find-returns-in-13 t c = rw (← c.read-cell.ensures, c.in-13.is, ← c.fst.ensures)
+find-returns-in-Fst t c = rw (← c.read-cell.ensures, law.kind_is _ c.of.ensures c.in-Fst.is, ← c.fst.ensures)
 
-pub find-returns-in-14 : goal.find-returns-in-14
+pub find-returns-in-Snd : goal.find-returns-in-Snd
 unfolding find find_compound up steps stated
-find-returns-in-14 t c = rw (← c.read-cell.ensures, c.in-14.is, ← c.snd.ensures)
+find-returns-in-Snd t c = rw (← c.read-cell.ensures, law.kind_is _ c.of.ensures c.in-Snd.is, ← c.snd.ensures)
 
 pub find-returns-in_default : goal.find-returns-in_default
 unfolding find find_compound up steps stated
-find-returns-in_default t c = rw (← c.read-cell.ensures, ne_eqb _ _ (let n : c.read-cell.result.kind ≡ 1 → ⊥ = omega arith in n), ne_eqb _ _ (let n : c.read-cell.result.kind ≡ 2 → ⊥ = omega arith in n), ne_eqb _ _ (let n : c.read-cell.result.kind ≡ 3 → ⊥ = omega arith in n), ne_eqb _ _ (let n : c.read-cell.result.kind ≡ 4 → ⊥ = omega arith in n), ne_eqb _ _ (let n : c.read-cell.result.kind ≡ 5 → ⊥ = omega arith in n))
-    (rw (ne_eqb _ _ (let n : c.read-cell.result.kind ≡ 6 → ⊥ = omega arith in n), ne_eqb _ _ (let n : c.read-cell.result.kind ≡ 7 → ⊥ = omega arith in n), ne_eqb _ _ (let n : c.read-cell.result.kind ≡ 8 → ⊥ = omega arith in n), ne_eqb _ _ (let n : c.read-cell.result.kind ≡ 9 → ⊥ = omega arith in n), ne_eqb _ _ (let n : c.read-cell.result.kind ≡ 11 → ⊥ = omega arith in n), ne_eqb _ _ (let n : c.read-cell.result.kind ≡ 12 → ⊥ = omega arith in n))
-    (rw (ne_eqb _ _ (let n : c.read-cell.result.kind ≡ 13 → ⊥ = omega arith in n), ne_eqb _ _ (let n : c.read-cell.result.kind ≡ 14 → ⊥ = omega arith in n), ← c.papp.ensures)))
+find-returns-in_default t c = rw (← c.read-cell.ensures, law.kind_isnt _ c.of.ensures c.in_default.not-Universe refl, law.kind_isnt _ c.of.ensures c.in_default.not-Var refl, law.kind_isnt _ c.of.ensures c.in_default.not-Nat refl, law.kind_isnt _ c.of.ensures c.in_default.not-Zero refl, law.kind_isnt _ c.of.ensures c.in_default.not-Pi refl)
+    (rw (law.kind_isnt _ c.of.ensures c.in_default.not-Lam refl, law.kind_isnt _ c.of.ensures c.in_default.not-App refl, law.kind_isnt _ c.of.ensures c.in_default.not-Path refl, law.kind_isnt _ c.of.ensures c.in_default.not-Plam refl, law.kind_isnt _ c.of.ensures c.in_default.not-Sigma refl, law.kind_isnt _ c.of.ensures c.in_default.not-Pair refl)
+    (rw (law.kind_isnt _ c.of.ensures c.in_default.not-Fst refl, law.kind_isnt _ c.of.ensures c.in_default.not-Snd refl, ← c.papp.ensures)))
 
 pub fst-returns-in_err-s1 : goal.fst-returns-in_err-s1
 unfolding find_fst as_sigma steps stated
@@ -309,18 +313,18 @@ pub head-returns-in_err-s1 : goal.head-returns-in_err-s1
 unfolding headed steps stated
 head-returns-in_err-s1 t c = rw (law.residual _ _ c.from_residual.ensures.1, ← c.in_err-s1.ensures)
 
-pub head-returns-then-read-kind : goal.head-returns-then-read-kind
+pub head-returns-then-read-number : goal.head-returns-then-read-number
 unfolding headed steps stated
-head-returns-then-read-kind t c = rw (← c.in_ok-s1.ensures, ← c.read.ensures, eq-eqb _ _ c.if-read-kind.true)
+head-returns-then-read-number t c = rw (← c.in_ok-s1.ensures, ← c.read.ensures, ← c.number.ensures, eq-eqb _ _ c.if-read-number.true)
 
 pub head-returns-then-s1-ge32 : goal.head-returns-then-s1-ge32
 unfolding headed steps stated
-head-returns-then-s1-ge32 t c = rw (← c.in_ok-s1.ensures, ← c.read.ensures, ne_eqb _ _ c.if-read-kind.false, le-ltb _ _ c.if-s1-ge32.true, c.refused.ensures)
+head-returns-then-s1-ge32 t c = rw (← c.in_ok-s1.ensures, ← c.read.ensures, ← c.number.ensures, ne_eqb _ _ c.if-read-number.false, le-ltb _ _ c.if-s1-ge32.true, c.refused.ensures)
 
 pub head-returns : goal.head-returns
 unfolding headed steps stated
-head-returns t c = rw (← c.in_ok-s1.ensures, ← c.read.ensures, ne_eqb _ _ c.if-read-kind.false, lt-ltb _ _ c.if-s1-ge32.false, ← c.converting-s2.ensures, ← c.expose.ensures)
-    (rw (law.ended_end _ _ _, ← c.ended.ensures))
+head-returns t c = rw (← c.in_ok-s1.ensures, ← c.read.ensures, ← c.number.ensures, ne_eqb _ _ c.if-read-number.false, lt-ltb _ _ c.if-s1-ge32.false, ← c.converting-s2.ensures)
+    (rw (← c.expose.ensures, law.ended_end _ _ _, ← c.ended.ensures))
 
 pub infer-returns-then-left-eq0 : goal.infer-returns-then-left-eq0
 unfolding infer_body new_infer steps stated
@@ -355,29 +359,30 @@ lam-returns-in_err-s1 t c = rw (law.residual _ _ c.from_residual.ensures.1, ← 
 
 pub lam-returns-in_err-s2 : goal.lam-returns-in_err-s2
 unfolding find_lam steps stated
-lam-returns-in_err-s2 t c = rw (← c.in_ok-s1.ensures, law.residual _ _ c.from_residual-in_err-s2.ensures.1, ← c.in_err-s2.ensures)
+lam-returns-in_err-s2 t c = rw (← c.in_ok-s1.ensures, law.node c.new-context.ensures, law.residual _ _ c.from_residual-in_err-s2.ensures.1, ← c.in_err-s2.ensures)
 
 pub lam-returns-in_err-s3 : goal.lam-returns-in_err-s3
 unfolding find_lam steps stated
-lam-returns-in_err-s3 t c = rw (← c.in_ok-s1.ensures, ← c.in_ok-s2.ensures, law.residual _ _ c.from_residual-in_err-s3.ensures.1, ← c.in_err-s3.ensures)
+lam-returns-in_err-s3 t c = rw (← c.in_ok-s1.ensures, law.node c.new-context.ensures, ← c.in_ok-s2.ensures, law.residual _ _ c.from_residual-in_err-s3.ensures.1, ← c.in_err-s3.ensures)
 
 pub lam-returns-in_err-s4 : goal.lam-returns-in_err-s4
 unfolding find_lam steps stated
-lam-returns-in_err-s4 t c = rw (← c.in_ok-s1.ensures, ← c.in_ok-s2.ensures, ← c.in_ok-s3.ensures, law.residual _ _ c.from_residual-in_err-s4.ensures.1, ← c.in_err-s4.ensures)
+lam-returns-in_err-s4 t c = rw (← c.in_ok-s1.ensures, law.node c.new-context.ensures, ← c.in_ok-s2.ensures, ← c.in_ok-s3.ensures, law.residual _ _ c.from_residual-in_err-s4.ensures.1, ← c.in_err-s4.ensures)
 
 pub lam-returns-in_err-s5 : goal.lam-returns-in_err-s5
 unfolding find_lam steps stated
-lam-returns-in_err-s5 t c = rw (← c.in_ok-s1.ensures, ← c.in_ok-s2.ensures, ← c.in_ok-s3.ensures, ← c.in_ok-s4.ensures, law.residual _ _ c.from_residual-in_err-s5.ensures.1, ← c.in_err-s5.ensures)
+lam-returns-in_err-s5 t c = rw (← c.in_ok-s1.ensures, law.node c.new-context.ensures, ← c.in_ok-s2.ensures, ← c.in_ok-s3.ensures, ← c.in_ok-s4.ensures, law.residual _ _ c.from_residual-in_err-s5.ensures.1)
+    (rw (← c.in_err-s5.ensures))
 
 pub lam-returns-in_err-s6 : goal.lam-returns-in_err-s6
 unfolding find_lam steps stated
-lam-returns-in_err-s6 t c = rw (← c.in_ok-s1.ensures, ← c.in_ok-s2.ensures, ← c.in_ok-s3.ensures, ← c.in_ok-s4.ensures, ← c.in_ok-s5.ensures, law.residual _ _ c.from_residual-in_err-s6.ensures.1)
-    (rw (← c.in_err-s6.ensures))
+lam-returns-in_err-s6 t c = rw (← c.in_ok-s1.ensures, law.node c.new-context.ensures, ← c.in_ok-s2.ensures, ← c.in_ok-s3.ensures, ← c.in_ok-s4.ensures, ← c.in_ok-s5.ensures)
+    (rw (law.node c.new.ensures, law.residual _ _ c.from_residual-in_err-s6.ensures.1, ← c.in_err-s6.ensures))
 
 pub lam-returns : goal.lam-returns
 unfolding find_lam steps stated
-lam-returns t c = rw (← c.in_ok-s1.ensures, ← c.in_ok-s2.ensures, ← c.in_ok-s3.ensures, ← c.in_ok-s4.ensures, ← c.in_ok-s5.ensures, ← c.in_ok-s6.ensures)
-    (rw (← c.cite.ensures))
+lam-returns t c = rw (← c.in_ok-s1.ensures, law.node c.new-context.ensures, ← c.in_ok-s2.ensures, ← c.in_ok-s3.ensures, ← c.in_ok-s4.ensures, ← c.in_ok-s5.ensures)
+    (rw (law.node c.new.ensures, ← c.in_ok-s6.ensures, ← c.cite.ensures))
 
 pub line-returns-in_err-s1 : goal.line-returns-in_err-s1
 unfolding reduce_papp at_ends as_path steps stated
@@ -396,20 +401,20 @@ unfolding reduce_papp at_ends as_path steps stated
 line-returns-in-Plam t c = rw (← c.in_ok-s1.ensures, ← c.shape_of.ensures, c.in-Path.is, ← c.in_ok-s2.ensures, ← c.shape_of-2.ensures, c.in-Plam.is)
     (rw (← c.pbeta.ensures))
 
-pub line-returns-in-16 : goal.line-returns-in-16
+pub line-returns-in-I0 : goal.line-returns-in-I0
 unfolding reduce_papp at_ends as_path steps stated
-line-returns-in-16 t c = rw (← c.in_ok-s1.ensures, ← c.shape_of.ensures, c.in-Path.is, ← c.in_ok-s2.ensures, ← c.shape_of-2.ensures, law.not_plam _ c.in_default-shape_of.not-Plam)
-    (rw (← c.read.ensures, c.in-16.is, ← c.step.ensures))
+line-returns-in-I0 t c = rw (← c.in_ok-s1.ensures, ← c.shape_of.ensures, c.in-Path.is, ← c.in_ok-s2.ensures, ← c.shape_of-2.ensures, law.not_plam _ c.in_default-shape_of.not-Plam)
+    (rw (← c.read.ensures, law.kind_is _ c.of.ensures c.in-I0.is, ← c.step.ensures))
 
-pub line-returns-in-17 : goal.line-returns-in-17
+pub line-returns-in-I1 : goal.line-returns-in-I1
 unfolding reduce_papp at_ends as_path steps stated
-line-returns-in-17 t c = rw (← c.in_ok-s1.ensures, ← c.shape_of.ensures, c.in-Path.is, ← c.in_ok-s2.ensures, ← c.shape_of-2.ensures, law.not_plam _ c.in_default-shape_of.not-Plam)
-    (rw (← c.read.ensures, c.in-17.is, ← c.step-in-17.ensures))
+line-returns-in-I1 t c = rw (← c.in_ok-s1.ensures, ← c.shape_of.ensures, c.in-Path.is, ← c.in_ok-s2.ensures, ← c.shape_of-2.ensures, law.not_plam _ c.in_default-shape_of.not-Plam)
+    (rw (← c.read.ensures, law.kind_is _ c.of.ensures c.in-I1.is, ← c.step-in-I1.ensures))
 
-pub line-returns-in_default-kind : goal.line-returns-in_default-kind
+pub line-returns-in_default-of : goal.line-returns-in_default-of
 unfolding reduce_papp at_ends as_path steps stated
-line-returns-in_default-kind t c = rw (← c.in_ok-s1.ensures, ← c.shape_of.ensures, c.in-Path.is, ← c.in_ok-s2.ensures, ← c.shape_of-2.ensures, law.not_plam _ c.in_default-shape_of.not-Plam)
-    (rw (← c.read.ensures, ne_eqb _ _ (let n : c.read.result.kind ≡ 16 → ⊥ = omega arith in n), ne_eqb _ _ (let n : c.read.result.kind ≡ 17 → ⊥ = omega arith in n)))
+line-returns-in_default-of t c = rw (← c.in_ok-s1.ensures, ← c.shape_of.ensures, c.in-Path.is, ← c.in_ok-s2.ensures, ← c.shape_of-2.ensures, law.not_plam _ c.in_default-shape_of.not-Plam)
+    (rw (← c.read.ensures, law.kind_isnt _ c.of.ensures c.in_default-of.not-I0 refl, law.kind_isnt _ c.of.ensures c.in_default-of.not-I1 refl))
 
 pub normalize-returns-then-left-eq0 : goal.normalize-returns-then-left-eq0
 unfolding normalize_body steps stated
@@ -437,41 +442,44 @@ pair-returns-in_err-s1 t c = rw (← c.shape_of.ensures, c.in-Sigma.is, law.resi
 
 pub pair-returns-in_err-s2 : goal.pair-returns-in_err-s2
 unfolding find_pair pair_typed steps stated
-pair-returns-in_err-s2 t c = rw (← c.shape_of.ensures, c.in-Sigma.is, ← c.in_ok-s1.ensures, law.residual _ _ c.from_residual-in_err-s2.ensures.1, ← c.in_err-s2.ensures)
+pair-returns-in_err-s2 t c = rw (← c.shape_of.ensures, c.in-Sigma.is, ← c.in_ok-s1.ensures, law.node c.new.ensures, law.residual _ _ c.from_residual-in_err-s2.ensures.1, ← c.in_err-s2.ensures)
 
 pub pair-returns-in_err-s3 : goal.pair-returns-in_err-s3
 unfolding find_pair pair_typed steps stated
-pair-returns-in_err-s3 t c = rw (← c.shape_of.ensures, c.in-Sigma.is, ← c.in_ok-s1.ensures, ← c.in_ok-s2.ensures, law.residual _ _ c.from_residual-in_err-s3.ensures.1, ← c.in_err-s3.ensures)
+pair-returns-in_err-s3 t c = rw (← c.shape_of.ensures, c.in-Sigma.is, ← c.in_ok-s1.ensures, law.node c.new.ensures, ← c.in_ok-s2.ensures, law.residual _ _ c.from_residual-in_err-s3.ensures.1)
+    (rw (← c.in_err-s3.ensures))
 
 pub pair-returns-in_err-s4 : goal.pair-returns-in_err-s4
 unfolding find_pair pair_typed steps stated
-pair-returns-in_err-s4 t c = rw (← c.shape_of.ensures, c.in-Sigma.is, ← c.in_ok-s1.ensures, ← c.in_ok-s2.ensures, ← c.in_ok-s3.ensures, law.residual _ _ c.from_residual-in_err-s4.ensures.1)
-    (rw (← c.in_err-s4.ensures))
+pair-returns-in_err-s4 t c = rw (← c.shape_of.ensures, c.in-Sigma.is, ← c.in_ok-s1.ensures, law.node c.new.ensures, ← c.in_ok-s2.ensures, ← c.in_ok-s3.ensures)
+    (rw (law.residual _ _ c.from_residual-in_err-s4.ensures.1, ← c.in_err-s4.ensures))
 
 pub pair-returns-in_err-s5 : goal.pair-returns-in_err-s5
 unfolding find_pair pair_typed steps stated
-pair-returns-in_err-s5 t c = rw (← c.shape_of.ensures, c.in-Sigma.is, ← c.in_ok-s1.ensures, ← c.in_ok-s2.ensures, ← c.in_ok-s3.ensures, ← c.in_ok-s4.ensures)
-    (rw (law.residual _ _ c.from_residual-in_err-s5.ensures.1, ← c.in_err-s5.ensures))
+pair-returns-in_err-s5 t c = rw (← c.shape_of.ensures, c.in-Sigma.is, ← c.in_ok-s1.ensures, law.node c.new.ensures, ← c.in_ok-s2.ensures, ← c.in_ok-s3.ensures)
+    (rw (← c.in_ok-s4.ensures, law.residual _ _ c.from_residual-in_err-s5.ensures.1, ← c.in_err-s5.ensures))
 
 pub pair-returns-in_err-s6 : goal.pair-returns-in_err-s6
 unfolding find_pair pair_typed steps stated
-pair-returns-in_err-s6 t c = rw (← c.shape_of.ensures, c.in-Sigma.is, ← c.in_ok-s1.ensures, ← c.in_ok-s2.ensures, ← c.in_ok-s3.ensures, ← c.in_ok-s4.ensures)
-    (rw (← c.in_ok-s5.ensures, law.residual _ _ c.from_residual-in_err-s6.ensures.1, ← c.in_err-s6.ensures))
+pair-returns-in_err-s6 t c = rw (← c.shape_of.ensures, c.in-Sigma.is, ← c.in_ok-s1.ensures, law.node c.new.ensures, ← c.in_ok-s2.ensures, ← c.in_ok-s3.ensures)
+    (rw (← c.in_ok-s4.ensures, ← c.in_ok-s5.ensures, law.node c.new-2.ensures, law.residual _ _ c.from_residual-in_err-s6.ensures.1, ← c.in_err-s6.ensures))
 
 pub pair-returns-in_err-s7 : goal.pair-returns-in_err-s7
 unfolding find_pair pair_typed steps stated
-pair-returns-in_err-s7 t c = rw (← c.shape_of.ensures, c.in-Sigma.is, ← c.in_ok-s1.ensures, ← c.in_ok-s2.ensures, ← c.in_ok-s3.ensures, ← c.in_ok-s4.ensures)
-    (rw (← c.in_ok-s5.ensures, ← c.in_ok-s6.ensures, law.residual _ _ c.from_residual-in_err-s7.ensures.1, ← c.in_err-s7.ensures))
+pair-returns-in_err-s7 t c = rw (← c.shape_of.ensures, c.in-Sigma.is, ← c.in_ok-s1.ensures, law.node c.new.ensures, ← c.in_ok-s2.ensures, ← c.in_ok-s3.ensures)
+    (rw (← c.in_ok-s4.ensures, ← c.in_ok-s5.ensures, law.node c.new-2.ensures, ← c.in_ok-s6.ensures, law.residual _ _ c.from_residual-in_err-s7.ensures.1, ← c.in_err-s7.ensures))
 
 pub pair-returns-in_err-s8 : goal.pair-returns-in_err-s8
 unfolding find_pair pair_typed steps stated
-pair-returns-in_err-s8 t c = rw (← c.shape_of.ensures, c.in-Sigma.is, ← c.in_ok-s1.ensures, ← c.in_ok-s2.ensures, ← c.in_ok-s3.ensures, ← c.in_ok-s4.ensures)
-    (rw (← c.in_ok-s5.ensures, ← c.in_ok-s6.ensures, ← c.in_ok-s7.ensures, law.residual _ _ c.from_residual-in_err-s8.ensures.1, ← c.in_err-s8.ensures))
+pair-returns-in_err-s8 t c = rw (← c.shape_of.ensures, c.in-Sigma.is, ← c.in_ok-s1.ensures, law.node c.new.ensures, ← c.in_ok-s2.ensures, ← c.in_ok-s3.ensures)
+    (rw (← c.in_ok-s4.ensures, ← c.in_ok-s5.ensures, law.node c.new-2.ensures, ← c.in_ok-s6.ensures, ← c.in_ok-s7.ensures, law.residual _ _ c.from_residual-in_err-s8.ensures.1)
+    (rw (← c.in_err-s8.ensures)))
 
 pub pair-returns : goal.pair-returns
 unfolding find_pair pair_typed steps stated
-pair-returns t c = rw (← c.shape_of.ensures, c.in-Sigma.is, ← c.in_ok-s1.ensures, ← c.in_ok-s2.ensures, ← c.in_ok-s3.ensures, ← c.in_ok-s4.ensures)
-    (rw (← c.in_ok-s5.ensures, ← c.in_ok-s6.ensures, ← c.in_ok-s7.ensures, ← c.in_ok-s8.ensures, ← c.cite.ensures))
+pair-returns t c = rw (← c.shape_of.ensures, c.in-Sigma.is, ← c.in_ok-s1.ensures, law.node c.new.ensures, ← c.in_ok-s2.ensures, ← c.in_ok-s3.ensures)
+    (rw (← c.in_ok-s4.ensures, ← c.in_ok-s5.ensures, law.node c.new-2.ensures, ← c.in_ok-s6.ensures, ← c.in_ok-s7.ensures, ← c.in_ok-s8.ensures)
+    (rw (← c.cite.ensures)))
 
 pub papp-returns-in_err-s1 : goal.papp-returns-in_err-s1
 unfolding find_papp as_path steps stated
@@ -527,12 +535,12 @@ path-returns-in_err-s6 t c = rw (← c.in_ok-s1.ensures, ← c.in_ok-s2.ensures,
 pub path-returns-in_err-s7 : goal.path-returns-in_err-s7
 unfolding find_path path_ends up steps stated
 path-returns-in_err-s7 t c = rw (← c.in_ok-s1.ensures, ← c.in_ok-s2.ensures, ← c.in_ok-s3.ensures, ← c.in_ok-s4.ensures, ← c.in_ok-s5.ensures, ← c.in_ok-s6.ensures)
-    (rw (law.residual _ _ c.from_residual-in_err-s7.ensures.1, ← c.in_err-s7.ensures))
+    (rw (law.node c.new.ensures, law.residual _ _ c.from_residual-in_err-s7.ensures.1, ← c.in_err-s7.ensures))
 
 pub path-returns : goal.path-returns
 unfolding find_path path_ends up steps stated
 path-returns t c = rw (← c.in_ok-s1.ensures, ← c.in_ok-s2.ensures, ← c.in_ok-s3.ensures, ← c.in_ok-s4.ensures, ← c.in_ok-s5.ensures, ← c.in_ok-s6.ensures)
-    (rw (← c.in_ok-s7.ensures, ← c.cite.ensures))
+    (rw (law.node c.new.ensures, ← c.in_ok-s7.ensures, ← c.cite.ensures))
 
 pub pbeta-returns-in_err-s1 : goal.pbeta-returns-in_err-s1
 unfolding pbeta steps stated
@@ -560,25 +568,25 @@ pi-returns-in_err-s1 t c = rw (law.residual _ _ c.from_residual.ensures.1, ← c
 
 pub pi-returns-in_err-s2 : goal.pi-returns-in_err-s2
 unfolding find_binder steps stated
-pi-returns-in_err-s2 t c = rw (← c.in_ok-s1.ensures, law.residual _ _ c.from_residual-in_err-s2.ensures.1, ← c.in_err-s2.ensures)
+pi-returns-in_err-s2 t c = rw (← c.in_ok-s1.ensures, law.node c.new.ensures, law.residual _ _ c.from_residual-in_err-s2.ensures.1, ← c.in_err-s2.ensures)
 
 pub pi-returns-in_err-s3 : goal.pi-returns-in_err-s3
 unfolding find_binder steps stated
-pi-returns-in_err-s3 t c = rw (← c.in_ok-s1.ensures, ← c.in_ok-s2.ensures, law.residual _ _ c.from_residual-in_err-s3.ensures.1, ← c.in_err-s3.ensures)
+pi-returns-in_err-s3 t c = rw (← c.in_ok-s1.ensures, law.node c.new.ensures, ← c.in_ok-s2.ensures, law.residual _ _ c.from_residual-in_err-s3.ensures.1, ← c.in_err-s3.ensures)
 
 pub pi-returns-in_err-s4 : goal.pi-returns-in_err-s4
 unfolding find_binder steps stated
-pi-returns-in_err-s4 t c = rw (← c.in_ok-s1.ensures, ← c.in_ok-s2.ensures, ← c.in_ok-s3.ensures, law.residual _ _ c.from_residual-in_err-s4.ensures.1, ← c.in_err-s4.ensures)
+pi-returns-in_err-s4 t c = rw (← c.in_ok-s1.ensures, law.node c.new.ensures, ← c.in_ok-s2.ensures, ← c.in_ok-s3.ensures, law.residual _ _ c.from_residual-in_err-s4.ensures.1, ← c.in_err-s4.ensures)
 
 pub pi-returns-in_err-s5 : goal.pi-returns-in_err-s5
 unfolding find_binder steps stated
-pi-returns-in_err-s5 t c = rw (← c.in_ok-s1.ensures, ← c.in_ok-s2.ensures, ← c.in_ok-s3.ensures, ← c.in_ok-s4.ensures, law.greater_is _ _, ← c.max-top.ensures)
-    (rw (law.residual _ _ c.from_residual-in_err-s5.ensures.1, ← c.in_err-s5.ensures))
+pi-returns-in_err-s5 t c = rw (← c.in_ok-s1.ensures, law.node c.new.ensures, ← c.in_ok-s2.ensures, ← c.in_ok-s3.ensures, ← c.in_ok-s4.ensures, law.greater_is _ _)
+    (rw (← c.max-top.ensures, law.node c.new-2.ensures, law.residual _ _ c.from_residual-in_err-s5.ensures.1, ← c.in_err-s5.ensures))
 
 pub pi-returns : goal.pi-returns
 unfolding find_binder steps stated
-pi-returns t c = rw (← c.in_ok-s1.ensures, ← c.in_ok-s2.ensures, ← c.in_ok-s3.ensures, ← c.in_ok-s4.ensures, law.greater_is _ _, ← c.max-top.ensures)
-    (rw (← c.in_ok-s5.ensures, ← c.cite.ensures))
+pi-returns t c = rw (← c.in_ok-s1.ensures, law.node c.new.ensures, ← c.in_ok-s2.ensures, ← c.in_ok-s3.ensures, ← c.in_ok-s4.ensures, law.greater_is _ _)
+    (rw (← c.max-top.ensures, law.node c.new-2.ensures, ← c.in_ok-s5.ensures, ← c.cite.ensures))
 
 pub plam-returns-in_err-s1 : goal.plam-returns-in_err-s1
 unfolding find_plam plam_ends up steps stated
@@ -618,12 +626,12 @@ plam-returns-in_err-s8 t c = rw (← c.in_ok-s1.ensures, ← c.in_ok-s2.ensures,
 pub plam-returns-in_err-s9 : goal.plam-returns-in_err-s9
 unfolding find_plam plam_ends up steps stated
 plam-returns-in_err-s9 t c = rw (← c.in_ok-s1.ensures, ← c.in_ok-s2.ensures, ← c.in_ok-s3.ensures, ← c.in_ok-s4.ensures, ← c.in_ok-s5.ensures, ← c.in_ok-s6.ensures)
-    (rw (← c.in_ok-s7.ensures, ← c.in_ok-s8.ensures, law.residual _ _ c.from_residual-in_err-s9.ensures.1, ← c.in_err-s9.ensures))
+    (rw (← c.in_ok-s7.ensures, ← c.in_ok-s8.ensures, law.node c.new.ensures, law.residual _ _ c.from_residual-in_err-s9.ensures.1, ← c.in_err-s9.ensures))
 
 pub plam-returns : goal.plam-returns
 unfolding find_plam plam_ends up steps stated
 plam-returns t c = rw (← c.in_ok-s1.ensures, ← c.in_ok-s2.ensures, ← c.in_ok-s3.ensures, ← c.in_ok-s4.ensures, ← c.in_ok-s5.ensures, ← c.in_ok-s6.ensures)
-    (rw (← c.in_ok-s7.ensures, ← c.in_ok-s8.ensures, ← c.in_ok-s9.ensures, ← c.cite.ensures))
+    (rw (← c.in_ok-s7.ensures, ← c.in_ok-s8.ensures, law.node c.new.ensures, ← c.in_ok-s9.ensures, ← c.cite.ensures))
 
 pub reduce-returns-then-left-eq0 : goal.reduce-returns-then-left-eq0
 unfolding reduce_body fst_beta snd_beta as_sigma steps stated
@@ -631,80 +639,82 @@ reduce-returns-then-left-eq0 t c = rw (law.reduce_none _ _ _ _ _ c.if-left-eq0.t
 
 pub reduce-returns-in_default-shape_of : goal.reduce-returns-in_default-shape_of
 unfolding reduce_body fst_beta snd_beta as_sigma steps stated
-reduce-returns-in_default-shape_of t c = rw (law.reduce_in _ _ _ _ _ c.if-left-eq0.false, ← c.deeper-s0.ensures, ← c.read-cell.ensures, c.in-7.is, ← c.shape_of.ensures, law.not_lam _ c.in_default-shape_of.not-Lam)
+reduce-returns-in_default-shape_of t c = rw (law.reduce_in _ _ _ _ _ c.if-left-eq0.false, ← c.deeper-s0.ensures, ← c.read-cell.ensures, law.kind_is _ c.of.ensures c.in-App.is, ← c.shape_of.ensures, law.not_lam _ c.in_default-shape_of.not-Lam)
 
 pub reduce-returns-in_default-shape_of-2 : goal.reduce-returns-in_default-shape_of-2
 unfolding reduce_body fst_beta snd_beta as_sigma steps stated
-reduce-returns-in_default-shape_of-2 t c = rw (law.reduce_in _ _ _ _ _ c.if-left-eq0.false, ← c.deeper-s0.ensures, ← c.read-cell.ensures, c.in-13.is, ← c.shape_of-in-13.ensures, law.not_pair _ c.in_default-shape_of-2.not-Pair)
+reduce-returns-in_default-shape_of-2 t c = rw (law.reduce_in _ _ _ _ _ c.if-left-eq0.false, ← c.deeper-s0.ensures, ← c.read-cell.ensures, law.kind_is _ c.of.ensures c.in-Fst.is, ← c.shape_of-in-Fst.ensures, law.not_pair _ c.in_default-shape_of-2.not-Pair)
 
-pub reduce-returns-in_err-s1-in-13 : goal.reduce-returns-in_err-s1-in-13
+pub reduce-returns-in_err-s1-in-Fst : goal.reduce-returns-in_err-s1-in-Fst
 unfolding reduce_body fst_beta snd_beta as_sigma steps stated
-reduce-returns-in_err-s1-in-13 t c = rw (law.reduce_in _ _ _ _ _ c.if-left-eq0.false, ← c.deeper-s0.ensures, ← c.read-cell.ensures, c.in-13.is, ← c.shape_of-in-13.ensures, c.in-Pair.is)
-    (rw (law.residual _ _ c.from_residual.ensures.1, ← c.in_err-s1-in-13.ensures))
+reduce-returns-in_err-s1-in-Fst t c = rw (law.reduce_in _ _ _ _ _ c.if-left-eq0.false, ← c.deeper-s0.ensures, ← c.read-cell.ensures, law.kind_is _ c.of.ensures c.in-Fst.is, ← c.shape_of-in-Fst.ensures, c.in-Pair.is)
+    (rw (law.residual _ _ c.from_residual.ensures.1, ← c.in_err-s1-in-Fst.ensures))
 
 pub reduce-returns-in_default-shape_of-3 : goal.reduce-returns-in_default-shape_of-3
 unfolding reduce_body fst_beta snd_beta as_sigma steps stated
-reduce-returns-in_default-shape_of-3 t c = rw (law.reduce_in _ _ _ _ _ c.if-left-eq0.false, ← c.deeper-s0.ensures, ← c.read-cell.ensures, c.in-13.is, ← c.shape_of-in-13.ensures, c.in-Pair.is)
-    (rw (← c.in_ok-s1-in-13.ensures, ← c.shape_of-in-13-2.ensures, law.not_sigma _ c.in_default-shape_of-3.not-Sigma, c.refused-in_default-shape_of-3.ensures))
+reduce-returns-in_default-shape_of-3 t c = rw (law.reduce_in _ _ _ _ _ c.if-left-eq0.false, ← c.deeper-s0.ensures, ← c.read-cell.ensures, law.kind_is _ c.of.ensures c.in-Fst.is, ← c.shape_of-in-Fst.ensures, c.in-Pair.is)
+    (rw (← c.in_ok-s1-in-Fst.ensures, ← c.shape_of-in-Fst-2.ensures, law.not_sigma _ c.in_default-shape_of-3.not-Sigma, c.refused-in_default-shape_of-3.ensures))
 
-pub reduce-returns-in_err-s2-in-13 : goal.reduce-returns-in_err-s2-in-13
+pub reduce-returns-in_err-s2-in-Fst : goal.reduce-returns-in_err-s2-in-Fst
 unfolding reduce_body fst_beta snd_beta as_sigma steps stated
-reduce-returns-in_err-s2-in-13 t c = rw (law.reduce_in _ _ _ _ _ c.if-left-eq0.false, ← c.deeper-s0.ensures, ← c.read-cell.ensures, c.in-13.is, ← c.shape_of-in-13.ensures, c.in-Pair.is)
-    (rw (← c.in_ok-s1-in-13.ensures, ← c.shape_of-in-13-2.ensures, c.in-Sigma.is, law.residual _ _ c.from_residual-in_err-s2-in-13.ensures.1, ← c.in_err-s2-in-13.ensures))
+reduce-returns-in_err-s2-in-Fst t c = rw (law.reduce_in _ _ _ _ _ c.if-left-eq0.false, ← c.deeper-s0.ensures, ← c.read-cell.ensures, law.kind_is _ c.of.ensures c.in-Fst.is, ← c.shape_of-in-Fst.ensures, c.in-Pair.is)
+    (rw (← c.in_ok-s1-in-Fst.ensures, ← c.shape_of-in-Fst-2.ensures, c.in-Sigma.is, law.residual _ _ c.from_residual-in_err-s2-in-Fst.ensures.1, ← c.in_err-s2-in-Fst.ensures))
 
-pub reduce-returns-in_err-s3-in-13 : goal.reduce-returns-in_err-s3-in-13
+pub reduce-returns-in_err-s3-in-Fst : goal.reduce-returns-in_err-s3-in-Fst
 unfolding reduce_body fst_beta snd_beta as_sigma steps stated
-reduce-returns-in_err-s3-in-13 t c = rw (law.reduce_in _ _ _ _ _ c.if-left-eq0.false, ← c.deeper-s0.ensures, ← c.read-cell.ensures, c.in-13.is, ← c.shape_of-in-13.ensures, c.in-Pair.is)
-    (rw (← c.in_ok-s1-in-13.ensures, ← c.shape_of-in-13-2.ensures, c.in-Sigma.is, ← c.in_ok-s2-in-13.ensures, ← c.cite-refs.ensures, law.residual _ _ c.from_residual-in_err-s3-in-13.ensures.1)
-    (rw (← c.in_err-s3-in-13.ensures)))
+reduce-returns-in_err-s3-in-Fst t c = rw (law.reduce_in _ _ _ _ _ c.if-left-eq0.false, ← c.deeper-s0.ensures, ← c.read-cell.ensures, law.kind_is _ c.of.ensures c.in-Fst.is, ← c.shape_of-in-Fst.ensures, c.in-Pair.is)
+    (rw (← c.in_ok-s1-in-Fst.ensures, ← c.shape_of-in-Fst-2.ensures, c.in-Sigma.is, ← c.in_ok-s2-in-Fst.ensures, ← c.cite-refs.ensures, law.residual _ _ c.from_residual-in_err-s3-in-Fst.ensures.1)
+    (rw (← c.in_err-s3-in-Fst.ensures)))
 
 pub reduce-returns-in_default-shape_of-4 : goal.reduce-returns-in_default-shape_of-4
 unfolding reduce_body fst_beta snd_beta as_sigma steps stated
-reduce-returns-in_default-shape_of-4 t c = rw (law.reduce_in _ _ _ _ _ c.if-left-eq0.false, ← c.deeper-s0.ensures, ← c.read-cell.ensures, c.in-14.is, ← c.shape_of-in-14.ensures, law.not_pair _ c.in_default-shape_of-4.not-Pair)
+reduce-returns-in_default-shape_of-4 t c = rw (law.reduce_in _ _ _ _ _ c.if-left-eq0.false, ← c.deeper-s0.ensures, ← c.read-cell.ensures, law.kind_is _ c.of.ensures c.in-Snd.is, ← c.shape_of-in-Snd.ensures, law.not_pair _ c.in_default-shape_of-4.not-Pair)
 
-pub reduce-returns-in_err-s1-in-14 : goal.reduce-returns-in_err-s1-in-14
+pub reduce-returns-in_err-s1-in-Snd : goal.reduce-returns-in_err-s1-in-Snd
 unfolding reduce_body fst_beta snd_beta as_sigma steps stated
-reduce-returns-in_err-s1-in-14 t c = rw (law.reduce_in _ _ _ _ _ c.if-left-eq0.false, ← c.deeper-s0.ensures, ← c.read-cell.ensures, c.in-14.is, ← c.shape_of-in-14.ensures, c.in-Pair-shape_of.is)
-    (rw (law.residual _ _ c.from_residual-in_err-s1-in-14.ensures.1, ← c.in_err-s1-in-14.ensures))
+reduce-returns-in_err-s1-in-Snd t c = rw (law.reduce_in _ _ _ _ _ c.if-left-eq0.false, ← c.deeper-s0.ensures, ← c.read-cell.ensures, law.kind_is _ c.of.ensures c.in-Snd.is, ← c.shape_of-in-Snd.ensures, c.in-Pair-shape_of.is)
+    (rw (law.residual _ _ c.from_residual-in_err-s1-in-Snd.ensures.1, ← c.in_err-s1-in-Snd.ensures))
 
 pub reduce-returns-in_default-shape_of-5 : goal.reduce-returns-in_default-shape_of-5
 unfolding reduce_body fst_beta snd_beta as_sigma steps stated
-reduce-returns-in_default-shape_of-5 t c = rw (law.reduce_in _ _ _ _ _ c.if-left-eq0.false, ← c.deeper-s0.ensures, ← c.read-cell.ensures, c.in-14.is, ← c.shape_of-in-14.ensures, c.in-Pair-shape_of.is)
-    (rw (← c.in_ok-s1-in-14.ensures, ← c.shape_of-in-14-2.ensures, law.not_sigma _ c.in_default-shape_of-5.not-Sigma, c.refused-in_default-shape_of-5.ensures))
+reduce-returns-in_default-shape_of-5 t c = rw (law.reduce_in _ _ _ _ _ c.if-left-eq0.false, ← c.deeper-s0.ensures, ← c.read-cell.ensures, law.kind_is _ c.of.ensures c.in-Snd.is, ← c.shape_of-in-Snd.ensures, c.in-Pair-shape_of.is)
+    (rw (← c.in_ok-s1-in-Snd.ensures, ← c.shape_of-in-Snd-2.ensures, law.not_sigma _ c.in_default-shape_of-5.not-Sigma, c.refused-in_default-shape_of-5.ensures))
 
-pub reduce-returns-in_err-s2-in-14 : goal.reduce-returns-in_err-s2-in-14
+pub reduce-returns-in_err-s2-in-Snd : goal.reduce-returns-in_err-s2-in-Snd
 unfolding reduce_body fst_beta snd_beta as_sigma steps stated
-reduce-returns-in_err-s2-in-14 t c = rw (law.reduce_in _ _ _ _ _ c.if-left-eq0.false, ← c.deeper-s0.ensures, ← c.read-cell.ensures, c.in-14.is, ← c.shape_of-in-14.ensures, c.in-Pair-shape_of.is)
-    (rw (← c.in_ok-s1-in-14.ensures, ← c.shape_of-in-14-2.ensures, c.in-Sigma-shape_of.is, law.residual _ _ c.from_residual-in_err-s2-in-14.ensures.1, ← c.in_err-s2-in-14.ensures))
+reduce-returns-in_err-s2-in-Snd t c = rw (law.reduce_in _ _ _ _ _ c.if-left-eq0.false, ← c.deeper-s0.ensures, ← c.read-cell.ensures, law.kind_is _ c.of.ensures c.in-Snd.is, ← c.shape_of-in-Snd.ensures, c.in-Pair-shape_of.is)
+    (rw (← c.in_ok-s1-in-Snd.ensures, ← c.shape_of-in-Snd-2.ensures, c.in-Sigma-shape_of.is, law.node c.new-node.ensures, law.residual _ _ c.from_residual-in_err-s2-in-Snd.ensures.1, ← c.in_err-s2-in-Snd.ensures))
 
-pub reduce-returns-in_err-s3-in-14 : goal.reduce-returns-in_err-s3-in-14
+pub reduce-returns-in_err-s3-in-Snd : goal.reduce-returns-in_err-s3-in-Snd
 unfolding reduce_body fst_beta snd_beta as_sigma steps stated
-reduce-returns-in_err-s3-in-14 t c = rw (law.reduce_in _ _ _ _ _ c.if-left-eq0.false, ← c.deeper-s0.ensures, ← c.read-cell.ensures, c.in-14.is, ← c.shape_of-in-14.ensures, c.in-Pair-shape_of.is)
-    (rw (← c.in_ok-s1-in-14.ensures, ← c.shape_of-in-14-2.ensures, c.in-Sigma-shape_of.is, ← c.in_ok-s2-in-14.ensures, law.residual _ _ c.from_residual-in_err-s3-in-14.ensures.1, ← c.in_err-s3-in-14.ensures))
+reduce-returns-in_err-s3-in-Snd t c = rw (law.reduce_in _ _ _ _ _ c.if-left-eq0.false, ← c.deeper-s0.ensures, ← c.read-cell.ensures, law.kind_is _ c.of.ensures c.in-Snd.is, ← c.shape_of-in-Snd.ensures, c.in-Pair-shape_of.is)
+    (rw (← c.in_ok-s1-in-Snd.ensures, ← c.shape_of-in-Snd-2.ensures, c.in-Sigma-shape_of.is, law.node c.new-node.ensures, ← c.in_ok-s2-in-Snd.ensures, law.residual _ _ c.from_residual-in_err-s3-in-Snd.ensures.1)
+    (rw (← c.in_err-s3-in-Snd.ensures)))
 
 pub reduce-returns-in-Lam : goal.reduce-returns-in-Lam
 unfolding reduce_body fst_beta snd_beta as_sigma steps stated
-reduce-returns-in-Lam t c = rw (law.reduce_in _ _ _ _ _ c.if-left-eq0.false, ← c.deeper-s0.ensures, ← c.read-cell.ensures, c.in-7.is, ← c.shape_of.ensures, c.in-Lam.is)
+reduce-returns-in-Lam t c = rw (law.reduce_in _ _ _ _ _ c.if-left-eq0.false, ← c.deeper-s0.ensures, ← c.read-cell.ensures, law.kind_is _ c.of.ensures c.in-App.is, ← c.shape_of.ensures, c.in-Lam.is)
     (rw (← c.beta.ensures))
 
-pub reduce-returns-in-10 : goal.reduce-returns-in-10
+pub reduce-returns-in-Papp : goal.reduce-returns-in-Papp
 unfolding reduce_body fst_beta snd_beta as_sigma steps stated
-reduce-returns-in-10 t c = rw (law.reduce_in _ _ _ _ _ c.if-left-eq0.false, ← c.deeper-s0.ensures, ← c.read-cell.ensures, c.in-10.is, ← c.line.ensures)
+reduce-returns-in-Papp t c = rw (law.reduce_in _ _ _ _ _ c.if-left-eq0.false, ← c.deeper-s0.ensures, ← c.read-cell.ensures, law.kind_is _ c.of.ensures c.in-Papp.is, ← c.line.ensures)
 
-pub reduce-returns-in_ok-s3-in-13 : goal.reduce-returns-in_ok-s3-in-13
+pub reduce-returns-in_ok-s3-in-Fst : goal.reduce-returns-in_ok-s3-in-Fst
 unfolding reduce_body fst_beta snd_beta as_sigma steps stated
-reduce-returns-in_ok-s3-in-13 t c = rw (law.reduce_in _ _ _ _ _ c.if-left-eq0.false, ← c.deeper-s0.ensures, ← c.read-cell.ensures, c.in-13.is, ← c.shape_of-in-13.ensures, c.in-Pair.is)
-    (rw (← c.in_ok-s1-in-13.ensures, ← c.shape_of-in-13-2.ensures, c.in-Sigma.is, ← c.in_ok-s2-in-13.ensures, ← c.cite-refs.ensures, ← c.in_ok-s3-in-13.ensures))
+reduce-returns-in_ok-s3-in-Fst t c = rw (law.reduce_in _ _ _ _ _ c.if-left-eq0.false, ← c.deeper-s0.ensures, ← c.read-cell.ensures, law.kind_is _ c.of.ensures c.in-Fst.is, ← c.shape_of-in-Fst.ensures, c.in-Pair.is)
+    (rw (← c.in_ok-s1-in-Fst.ensures, ← c.shape_of-in-Fst-2.ensures, c.in-Sigma.is, ← c.in_ok-s2-in-Fst.ensures, ← c.cite-refs.ensures, ← c.in_ok-s3-in-Fst.ensures))
 
-pub reduce-returns-in_ok-s3-in-14 : goal.reduce-returns-in_ok-s3-in-14
+pub reduce-returns-in_ok-s3-in-Snd : goal.reduce-returns-in_ok-s3-in-Snd
 unfolding reduce_body fst_beta snd_beta as_sigma steps stated
-reduce-returns-in_ok-s3-in-14 t c = rw (law.reduce_in _ _ _ _ _ c.if-left-eq0.false, ← c.deeper-s0.ensures, ← c.read-cell.ensures, c.in-14.is, ← c.shape_of-in-14.ensures, c.in-Pair-shape_of.is)
-    (rw (← c.in_ok-s1-in-14.ensures, ← c.shape_of-in-14-2.ensures, c.in-Sigma-shape_of.is, ← c.in_ok-s2-in-14.ensures, ← c.in_ok-s3-in-14.ensures, ← c.step.ensures))
+reduce-returns-in_ok-s3-in-Snd t c = rw (law.reduce_in _ _ _ _ _ c.if-left-eq0.false, ← c.deeper-s0.ensures, ← c.read-cell.ensures, law.kind_is _ c.of.ensures c.in-Snd.is, ← c.shape_of-in-Snd.ensures, c.in-Pair-shape_of.is)
+    (rw (← c.in_ok-s1-in-Snd.ensures, ← c.shape_of-in-Snd-2.ensures, c.in-Sigma-shape_of.is, law.node c.new-node.ensures, ← c.in_ok-s2-in-Snd.ensures, ← c.in_ok-s3-in-Snd.ensures)
+    (rw (← c.step.ensures)))
 
 pub reduce-returns-in_default : goal.reduce-returns-in_default
 unfolding reduce_body fst_beta snd_beta as_sigma steps stated
-reduce-returns-in_default t c = rw (law.reduce_in _ _ _ _ _ c.if-left-eq0.false, ← c.deeper-s0.ensures, ← c.read-cell.ensures, ne_eqb _ _ (let n : c.read-cell.result.kind ≡ 7 → ⊥ = omega arith in n), ne_eqb _ _ (let n : c.read-cell.result.kind ≡ 10 → ⊥ = omega arith in n), ne_eqb _ _ (let n : c.read-cell.result.kind ≡ 13 → ⊥ = omega arith in n))
-    (rw (ne_eqb _ _ (let n : c.read-cell.result.kind ≡ 14 → ⊥ = omega arith in n)))
+reduce-returns-in_default t c = rw (law.reduce_in _ _ _ _ _ c.if-left-eq0.false, ← c.deeper-s0.ensures, ← c.read-cell.ensures, law.kind_isnt _ c.of.ensures c.in_default.not-App refl, law.kind_isnt _ c.of.ensures c.in_default.not-Papp refl, law.kind_isnt _ c.of.ensures c.in_default.not-Fst refl)
+    (rw (law.kind_isnt _ c.of.ensures c.in_default.not-Snd refl))
 
 pub snd-returns-in_err-s1 : goal.snd-returns-in_err-s1
 unfolding find_snd as_sigma steps stated
@@ -716,21 +726,22 @@ snd-returns-in_default t c = rw (← c.in_ok-s1.ensures, ← c.shape_of.ensures,
 
 pub snd-returns-in_err-s2 : goal.snd-returns-in_err-s2
 unfolding find_snd as_sigma steps stated
-snd-returns-in_err-s2 t c = rw (← c.in_ok-s1.ensures, ← c.shape_of.ensures, c.in-Sigma.is, law.residual _ _ c.from_residual-in_err-s2.ensures.1, ← c.in_err-s2.ensures)
+snd-returns-in_err-s2 t c = rw (← c.in_ok-s1.ensures, ← c.shape_of.ensures, c.in-Sigma.is, law.node c.new.ensures, law.residual _ _ c.from_residual-in_err-s2.ensures.1, ← c.in_err-s2.ensures)
 
 pub snd-returns-in_err-s3 : goal.snd-returns-in_err-s3
 unfolding find_snd as_sigma steps stated
-snd-returns-in_err-s3 t c = rw (← c.in_ok-s1.ensures, ← c.shape_of.ensures, c.in-Sigma.is, ← c.in_ok-s2.ensures, law.residual _ _ c.from_residual-in_err-s3.ensures.1, ← c.in_err-s3.ensures)
+snd-returns-in_err-s3 t c = rw (← c.in_ok-s1.ensures, ← c.shape_of.ensures, c.in-Sigma.is, law.node c.new.ensures, ← c.in_ok-s2.ensures, law.residual _ _ c.from_residual-in_err-s3.ensures.1)
+    (rw (← c.in_err-s3.ensures))
 
 pub snd-returns-in_err-s4 : goal.snd-returns-in_err-s4
 unfolding find_snd as_sigma steps stated
-snd-returns-in_err-s4 t c = rw (← c.in_ok-s1.ensures, ← c.shape_of.ensures, c.in-Sigma.is, ← c.in_ok-s2.ensures, ← c.in_ok-s3.ensures, law.residual _ _ c.from_residual-in_err-s4.ensures.1)
-    (rw (← c.in_err-s4.ensures))
+snd-returns-in_err-s4 t c = rw (← c.in_ok-s1.ensures, ← c.shape_of.ensures, c.in-Sigma.is, law.node c.new.ensures, ← c.in_ok-s2.ensures, ← c.in_ok-s3.ensures)
+    (rw (law.residual _ _ c.from_residual-in_err-s4.ensures.1, ← c.in_err-s4.ensures))
 
 pub snd-returns : goal.snd-returns
 unfolding find_snd as_sigma steps stated
-snd-returns t c = rw (← c.in_ok-s1.ensures, ← c.shape_of.ensures, c.in-Sigma.is, ← c.in_ok-s2.ensures, ← c.in_ok-s3.ensures, ← c.in_ok-s4.ensures)
-    (rw (← c.cite.ensures))
+snd-returns t c = rw (← c.in_ok-s1.ensures, ← c.shape_of.ensures, c.in-Sigma.is, law.node c.new.ensures, ← c.in_ok-s2.ensures, ← c.in_ok-s3.ensures)
+    (rw (← c.in_ok-s4.ensures, ← c.cite.ensures))
 
 pub sort-returns-in_err-s : goal.sort-returns-in_err-s
 unfolding exposed steps stated

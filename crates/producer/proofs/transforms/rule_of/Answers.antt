@@ -1,63 +1,65 @@
-use Rattle.std.proofs.Common.{◌≡◌, arith}
-use borrow.Author.Tests.{ne_eqb}
-use Rattle.producer.specs.Judgments.{rule_number}
+-- Written by tools/written.py from tools/language.py; `python3 tools/written.py` makes it again.
+use Rattle.std.proofs.Common.{◌≡◌, refl}
 use Rattle.producer.specs.Transforms.{rule_of}
+use Rattle.producer.specs.Judgments.{rule_number}
+use Rattle.ast.specs.Kinds.{kind_number}
+use Rattle.ast.proofs.Numbered as law
 use Rattle.producer.proofs.transforms.rule_of.Goals as goal
 
-pub returns-in-1 : goal.returns-in-1
-unfolding rule_of rule_number
-returns-in-1 c = rw (c.in-1.is, ← c.by_op.ensures)
+pub returns-in-Universe : goal.returns-in-Universe
+unfolding rule_of rule_number kind_number
+returns-in-Universe c = rw (law.kind_is _ c.of.ensures c.in-Universe.is, ← c.by_op.ensures)
 
-pub returns-in-3 : goal.returns-in-3
-unfolding rule_of rule_number
-returns-in-3 c = rw (c.in-3.is, ← c.by_op-in-3.ensures)
+pub returns-in-Nat : goal.returns-in-Nat
+unfolding rule_of rule_number kind_number
+returns-in-Nat c = rw (law.kind_is _ c.of.ensures c.in-Nat.is, ← c.by_op-in-Nat.ensures)
 
-pub returns-in-4 : goal.returns-in-4
-unfolding rule_of rule_number
-returns-in-4 c = rw (c.in-4.is, ← c.by_op-in-4.ensures)
+pub returns-in-Zero : goal.returns-in-Zero
+unfolding rule_of rule_number kind_number
+returns-in-Zero c = rw (law.kind_is _ c.of.ensures c.in-Zero.is, ← c.by_op-in-Zero.ensures)
 
-pub returns-in-5 : goal.returns-in-5
-unfolding rule_of rule_number
-returns-in-5 c = rw (c.in-5.is, ← c.by_op-in-5.ensures)
+pub returns-in-Pi : goal.returns-in-Pi
+unfolding rule_of rule_number kind_number
+returns-in-Pi c = rw (law.kind_is _ c.of.ensures c.in-Pi.is, ← c.by_op-in-Pi.ensures)
 
-pub returns-in-6 : goal.returns-in-6
-unfolding rule_of rule_number
-returns-in-6 c = rw (c.in-6.is, ← c.by_op-in-6.ensures)
+pub returns-in-Lam : goal.returns-in-Lam
+unfolding rule_of rule_number kind_number
+returns-in-Lam c = rw (law.kind_is _ c.of.ensures c.in-Lam.is, ← c.by_op-in-Lam.ensures)
 
-pub returns-in-7 : goal.returns-in-7
-unfolding rule_of rule_number
-returns-in-7 c = rw (c.in-7.is, ← c.by_op-in-7.ensures)
+pub returns-in-App : goal.returns-in-App
+unfolding rule_of rule_number kind_number
+returns-in-App c = rw (law.kind_is _ c.of.ensures c.in-App.is, ← c.by_op-in-App.ensures)
 
-pub returns-in-8 : goal.returns-in-8
-unfolding rule_of rule_number
-returns-in-8 c = rw (c.in-8.is, ← c.by_op-in-8.ensures)
+pub returns-in-Path : goal.returns-in-Path
+unfolding rule_of rule_number kind_number
+returns-in-Path c = rw (law.kind_is _ c.of.ensures c.in-Path.is, ← c.by_op-in-Path.ensures)
 
-pub returns-in-9 : goal.returns-in-9
-unfolding rule_of rule_number
-returns-in-9 c = rw (c.in-9.is, ← c.by_op-in-9.ensures)
+pub returns-in-Plam : goal.returns-in-Plam
+unfolding rule_of rule_number kind_number
+returns-in-Plam c = rw (law.kind_is _ c.of.ensures c.in-Plam.is, ← c.by_op-in-Plam.ensures)
 
-pub returns-in-10 : goal.returns-in-10
-unfolding rule_of rule_number
-returns-in-10 c = rw (c.in-10.is, ← c.by_op-in-10.ensures)
+pub returns-in-Papp : goal.returns-in-Papp
+unfolding rule_of rule_number kind_number
+returns-in-Papp c = rw (law.kind_is _ c.of.ensures c.in-Papp.is, ← c.by_op-in-Papp.ensures)
 
-pub returns-in-11 : goal.returns-in-11
-unfolding rule_of rule_number
-returns-in-11 c = rw (c.in-11.is, ← c.by_op-in-11.ensures)
+pub returns-in-Sigma : goal.returns-in-Sigma
+unfolding rule_of rule_number kind_number
+returns-in-Sigma c = rw (law.kind_is _ c.of.ensures c.in-Sigma.is, ← c.by_op-in-Sigma.ensures)
 
-pub returns-in-12 : goal.returns-in-12
-unfolding rule_of rule_number
-returns-in-12 c = rw (c.in-12.is, ← c.by_op-in-12.ensures)
+pub returns-in-Pair : goal.returns-in-Pair
+unfolding rule_of rule_number kind_number
+returns-in-Pair c = rw (law.kind_is _ c.of.ensures c.in-Pair.is, ← c.by_op-in-Pair.ensures)
 
-pub returns-in-13 : goal.returns-in-13
-unfolding rule_of rule_number
-returns-in-13 c = rw (c.in-13.is, ← c.by_op-in-13.ensures)
+pub returns-in-Fst : goal.returns-in-Fst
+unfolding rule_of rule_number kind_number
+returns-in-Fst c = rw (law.kind_is _ c.of.ensures c.in-Fst.is, ← c.by_op-in-Fst.ensures)
 
-pub returns-in-14 : goal.returns-in-14
-unfolding rule_of rule_number
-returns-in-14 c = rw (c.in-14.is, ← c.by_op-in-14.ensures)
+pub returns-in-Snd : goal.returns-in-Snd
+unfolding rule_of rule_number kind_number
+returns-in-Snd c = rw (law.kind_is _ c.of.ensures c.in-Snd.is, ← c.by_op-in-Snd.ensures)
 
 pub returns-in_default : goal.returns-in_default
-unfolding rule_of rule_number
-returns-in_default c = rw (ne_eqb _ _ (let n : c.args.kind ≡ 1 → ⊥ = omega arith in n), ne_eqb _ _ (let n : c.args.kind ≡ 3 → ⊥ = omega arith in n), ne_eqb _ _ (let n : c.args.kind ≡ 4 → ⊥ = omega arith in n), ne_eqb _ _ (let n : c.args.kind ≡ 5 → ⊥ = omega arith in n), ne_eqb _ _ (let n : c.args.kind ≡ 6 → ⊥ = omega arith in n), ne_eqb _ _ (let n : c.args.kind ≡ 7 → ⊥ = omega arith in n))
-    (rw (ne_eqb _ _ (let n : c.args.kind ≡ 8 → ⊥ = omega arith in n), ne_eqb _ _ (let n : c.args.kind ≡ 9 → ⊥ = omega arith in n), ne_eqb _ _ (let n : c.args.kind ≡ 10 → ⊥ = omega arith in n), ne_eqb _ _ (let n : c.args.kind ≡ 11 → ⊥ = omega arith in n), ne_eqb _ _ (let n : c.args.kind ≡ 12 → ⊥ = omega arith in n), ne_eqb _ _ (let n : c.args.kind ≡ 13 → ⊥ = omega arith in n))
-    (rw (ne_eqb _ _ (let n : c.args.kind ≡ 14 → ⊥ = omega arith in n))))
+unfolding rule_of rule_number kind_number
+returns-in_default c = rw (law.kind_isnt _ c.of.ensures c.in_default.not-Universe refl, law.kind_isnt _ c.of.ensures c.in_default.not-Nat refl, law.kind_isnt _ c.of.ensures c.in_default.not-Zero refl, law.kind_isnt _ c.of.ensures c.in_default.not-Pi refl, law.kind_isnt _ c.of.ensures c.in_default.not-Lam refl, law.kind_isnt _ c.of.ensures c.in_default.not-App refl)
+    (rw (law.kind_isnt _ c.of.ensures c.in_default.not-Path refl, law.kind_isnt _ c.of.ensures c.in_default.not-Plam refl, law.kind_isnt _ c.of.ensures c.in_default.not-Papp refl, law.kind_isnt _ c.of.ensures c.in_default.not-Sigma refl, law.kind_isnt _ c.of.ensures c.in_default.not-Pair refl, law.kind_isnt _ c.of.ensures c.in_default.not-Fst refl)
+    (rw (law.kind_isnt _ c.of.ensures c.in_default.not-Snd refl)))

@@ -14,8 +14,8 @@ returns-in_err-s1 t c = rw (law.scoped_in _ _ _ _ _ c.if-left-eq0.false, law.res
 
 pub returns-in_err-s2 : goal.returns-in_err-s2
 unfolding scoped_body steps
-returns-in_err-s2 t c = rw (law.scoped_in _ _ _ _ _ c.if-left-eq0.false, ← c.in_ok-s1.ensures, law.residual _ _ c.from_residual-in_err-s2.ensures.1, ← c.in_err-s2.ensures)
+returns-in_err-s2 t c = rw (law.scoped_in _ _ _ _ _ c.if-left-eq0.false, ← c.in_ok-s1.ensures, law.node c.new.ensures, law.residual _ _ c.from_residual-in_err-s2.ensures.1, ← c.in_err-s2.ensures)
 
 pub returns : goal.returns
 unfolding scoped_body steps
-returns t c = rw (law.scoped_in _ _ _ _ _ c.if-left-eq0.false, ← c.in_ok-s1.ensures, ← c.in_ok-s2.ensures, ← c.scope.ensures)
+returns t c = rw (law.scoped_in _ _ _ _ _ c.if-left-eq0.false, ← c.in_ok-s1.ensures, law.node c.new.ensures, ← c.in_ok-s2.ensures, ← c.scope.ensures)

@@ -7,4 +7,4 @@ pub returns-in_default : goal.returns-in_default
 returns-in_default c = absurd (no_fault _ c.args.s.now _ _ _ _ _ c.loop-i.invariant.1 (one_more c.loop-i.invariant.1 c.loop-i-test.true) (le-ltb _ _ (room _ _ c.requires.0.few c.loop-i.invariant.0)) _ c.in_default.not-Ok c.past_at.ensures)
 
 pub loop-i-preserved : goal.loop-i-preserved
-loop-i-preserved c = (omega arith, rw c.put_code.ensures (turn _ c.args.s.now _ _ _ c.loop-i.at _ _ c.loop-i.invariant.1 (one_more c.loop-i.invariant.1 c.loop-i-test.true) c.in-Ok.ensures))
+loop-i-preserved c = (omega arith, rw c.put.ensures (turn _ c.args.s.now _ _ _ c.loop-i.at _ _ c.loop-i.invariant.1 (one_more c.loop-i.invariant.1 c.loop-i-test.true) c.in-Ok.ensures))

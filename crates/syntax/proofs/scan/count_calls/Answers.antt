@@ -1,10 +1,11 @@
 use Rattle.std.proofs.Common.{refl, ◌∙◌, ℕ, length, arith}
 use Rattle.std.proofs.lemmas.List.{length-replicate}
+use Rattle.syntax.specs.declared.lent.TheConstants.{STACK}
 use Rattle.syntax.proofs.Runs.{past_call, calls_on}
 use Rattle.syntax.proofs.scan.count_calls.Goals as goal
 
 pub loop-at-init : goal.loop-at-init
-loop-at-init c = (omega arith, length-replicate {A = ℕ} 131073 0, (length c.args.s.now, omega arith, refl))
+loop-at-init c = (omega arith, length-replicate {A = ℕ} STACK 0, (length c.args.s.now, omega arith, refl))
 
 pub loop-at-preserved : goal.loop-at-preserved
 loop-at-preserved c =

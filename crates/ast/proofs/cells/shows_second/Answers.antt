@@ -1,0 +1,55 @@
+-- Written by tools/written.py from tools/language.py; `python3 tools/written.py` makes it again.
+use Rattle.std.proofs.Common.{◌≡◌, refl}
+use Rattle.ast.specs.Cells.{shows_second}
+use Rattle.ast.specs.Kinds.{kind_number}
+use Rattle.ast.proofs.Numbered as law
+use Rattle.ast.proofs.cells.shows_second.Goals as goal
+
+pub returns-in-Pi : goal.returns-in-Pi
+unfolding shows_second kind_number
+returns-in-Pi c = rw (law.kind_is _ c.of.ensures c.in-Pi.is)
+
+pub returns-in-Lam : goal.returns-in-Lam
+unfolding shows_second kind_number
+returns-in-Lam c = rw (law.kind_is _ c.of.ensures c.in-Lam.is)
+
+pub returns-in-App : goal.returns-in-App
+unfolding shows_second kind_number
+returns-in-App c = rw (law.kind_is _ c.of.ensures c.in-App.is)
+
+pub returns-in-Path : goal.returns-in-Path
+unfolding shows_second kind_number
+returns-in-Path c = rw (law.kind_is _ c.of.ensures c.in-Path.is)
+
+pub returns-in-Plam : goal.returns-in-Plam
+unfolding shows_second kind_number
+returns-in-Plam c = rw (law.kind_is _ c.of.ensures c.in-Plam.is)
+
+pub returns-in-Papp : goal.returns-in-Papp
+unfolding shows_second kind_number
+returns-in-Papp c = rw (law.kind_is _ c.of.ensures c.in-Papp.is)
+
+pub returns-in-Sigma : goal.returns-in-Sigma
+unfolding shows_second kind_number
+returns-in-Sigma c = rw (law.kind_is _ c.of.ensures c.in-Sigma.is)
+
+pub returns-in-Pair : goal.returns-in-Pair
+unfolding shows_second kind_number
+returns-in-Pair c = rw (law.kind_is _ c.of.ensures c.in-Pair.is)
+
+pub returns-in-Meet : goal.returns-in-Meet
+unfolding shows_second kind_number
+returns-in-Meet c = rw (law.kind_is _ c.of.ensures c.in-Meet.is)
+
+pub returns-in-Join : goal.returns-in-Join
+unfolding shows_second kind_number
+returns-in-Join c = rw (law.kind_is _ c.of.ensures c.in-Join.is)
+
+pub returns-in-Cons : goal.returns-in-Cons
+unfolding shows_second kind_number
+returns-in-Cons c = rw (law.kind_is _ c.of.ensures c.in-Cons.is)
+
+pub returns-in_default : goal.returns-in_default
+unfolding shows_second kind_number
+returns-in_default c = rw (law.kind_isnt _ c.of.ensures c.in_default.not-Pi refl, law.kind_isnt _ c.of.ensures c.in_default.not-Lam refl, law.kind_isnt _ c.of.ensures c.in_default.not-App refl, law.kind_isnt _ c.of.ensures c.in_default.not-Path refl, law.kind_isnt _ c.of.ensures c.in_default.not-Plam refl, law.kind_isnt _ c.of.ensures c.in_default.not-Papp refl)
+    (rw (law.kind_isnt _ c.of.ensures c.in_default.not-Sigma refl, law.kind_isnt _ c.of.ensures c.in_default.not-Pair refl, law.kind_isnt _ c.of.ensures c.in_default.not-Meet refl, law.kind_isnt _ c.of.ensures c.in_default.not-Join refl, law.kind_isnt _ c.of.ensures c.in_default.not-Cons refl))
