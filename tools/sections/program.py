@@ -128,8 +128,9 @@ REFUSED = [[(camel(name), number, because) for number, name, because in group] f
 
 @whole('crates/ast/src/refusals.rt')
 def _():
-    groups = '\n'.join('\n'.join('    // %s.\n    %s = %d,' % (because[0].upper() + because[1:], name, number) for name, number, because in group)
+    groups = '\n'.join('\n'.join('    // %s.\n    %s,' % (because[0].upper() + because[1:], name) for name, _, because in group)
                        for group in REFUSED)
+    numbers = ''.join('            Refusal::%s => %d,\n' % (name, number) for group in REFUSED for name, number, _ in group)
     return f'''// The refusals: of a whole run, of a call before it is walked, of a call where the walk stops.
 // {NOTE}
 ghost use Rattle.std.specs.Prelude.{{◌≡◌}};
@@ -138,6 +139,8 @@ ghost use Rattle.ast.specs.Refusals.{{refusal_number}};
 #[derive(Clone, Copy, Debug, PartialEq, Eq)]
 pub enum Refusal {{
 {groups}
+    // Any other number.
+    Other(u32),
 }}
 
 impl Refusal {{
@@ -146,7 +149,9 @@ impl Refusal {{
     pub fn number(self) -> u32
         ensures {{ result ≡ refusal_number self }}
     {{
-        self as u32
+        match self {{
+{numbers}            Refusal::Other(number) => number,
+        }}
     }}
 }}
 '''
@@ -163,6 +168,7 @@ use Rattle.ast.specs.declared.refusals.Refusal.TheVariants as refusal
 
 unfoldable pub refusal_number : Refusal → ℕ
 {numbers}
+refusal_number (refusal.Other n) = n
 '''
 
 

@@ -6,49 +6,51 @@ ghost use Rattle.ast.specs.Refusals.{refusal_number};
 #[derive(Clone, Copy, Debug, PartialEq, Eq)]
 pub enum Refusal {
     // The row table has under 24 words, or the cell store under 8.
-    Slices = 1,
+    Slices,
     // It has over 65,536 bytes.
-    Bytes = 2,
+    Bytes,
     // It ends early; or its nesting limit is outside 1 to 4,096; or a byte is no code or kind for its spot.
-    Unread = 3,
+    Unread,
     // The answer slice has under four words a call.
-    Answers = 4,
+    Answers,
     // The dimension count or the context length passes 33.
-    Scope = 5,
+    Scope,
     // The depth passes 32 (the outermost node is at 0), or the nodes of the call pass 10,000.
-    Size = 6,
+    Size,
     // An index or a level passes 32.
-    Index = 7,
+    Index,
     // A variable has no type in the context.
-    Unbound = 8,
+    Unbound,
     // The function of an application has no pi type after `expose`.
-    NoFunction = 9,
+    NoFunction,
     // The path of a papp has no path type after `expose`.
-    NoPath = 10,
+    NoPath,
     // A term wanted as a type has no universe after `expose`.
-    NoType = 11,
+    NoType,
     // A conversion finds two universe levels.
-    Levels = 12,
+    Levels,
     // Two normalised sides have different quotes.
-    Quotes = 13,
+    Quotes,
     // `normalize` meets a reduction whose type is not quoted as the one wanted.
-    StepType = 14,
+    StepType,
     // There is a 33rd root reduction.
-    Reductions = 15,
+    Reductions,
     // A 33rd conversion would be nested.
-    Conversions = 16,
+    Conversions,
     // A dimension is not below the dimension count.
-    Dimension = 17,
+    Dimension,
     // A new row is needed, and 50,000, or all that the table holds, are used.
-    Rows = 18,
+    Rows,
     // A function would be entered past the nesting limit.
-    Nesting = 19,
+    Nesting,
     // A new cell is needed, and none is left, or 4,294,967,295 are used.
-    Cells = 20,
+    Cells,
     // The subject of a projection has no sigma type after `expose`.
-    NoSigma = 21,
+    NoSigma,
     // The annotation of a pair is not written as a sigma.
-    Annotation = 22,
+    Annotation,
+    // Any other number.
+    Other(u32),
 }
 
 impl Refusal {
@@ -57,6 +59,30 @@ impl Refusal {
     pub fn number(self) -> u32
         ensures { result ≡ refusal_number self }
     {
-        self as u32
+        match self {
+            Refusal::Slices => 1,
+            Refusal::Bytes => 2,
+            Refusal::Unread => 3,
+            Refusal::Answers => 4,
+            Refusal::Scope => 5,
+            Refusal::Size => 6,
+            Refusal::Index => 7,
+            Refusal::Unbound => 8,
+            Refusal::NoFunction => 9,
+            Refusal::NoPath => 10,
+            Refusal::NoType => 11,
+            Refusal::Levels => 12,
+            Refusal::Quotes => 13,
+            Refusal::StepType => 14,
+            Refusal::Reductions => 15,
+            Refusal::Conversions => 16,
+            Refusal::Dimension => 17,
+            Refusal::Rows => 18,
+            Refusal::Nesting => 19,
+            Refusal::Cells => 20,
+            Refusal::NoSigma => 21,
+            Refusal::Annotation => 22,
+            Refusal::Other(number) => number,
+        }
     }
 }

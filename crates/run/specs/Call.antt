@@ -51,11 +51,14 @@ by_code left bytes at code d g =
           else with_term left bytes next code d g t))
 
 -- the function is entered, then its arguments are made: the context first, whose types start at an offset
-unfoldable pub with_context : ℕ → List ℕ → ℕ → CallHead → W (ℕ × ℕ)
-with_context left bytes at head = do
+unfoldable pub with_scope : ℕ → List ℕ → (at code dims size : ℕ) → W (ℕ × ℕ)
+with_scope left bytes at code dims size = do
   nil ← prepared (callees left) (intern 32 0 0 0)
-  (g, terms) ← scoped head.size bytes at nil
-  by_code left bytes terms (code_number (code_of head.code)) head.dims g
+  (g, terms) ← scoped size bytes at nil
+  by_code left bytes terms code dims g
+
+unfoldable pub with_context : ℕ → List ℕ → ℕ → CallHead → W (ℕ × ℕ)
+with_context left bytes at head = with_scope left bytes at (code_number (code_of head.code)) head.dims head.size
 
 -- the call at an offset, which has this head; the whole limit is left
 unfoldable pub called : List ℕ → ℕ → CallHead → W (ℕ × ℕ)

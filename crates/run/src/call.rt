@@ -3,7 +3,7 @@
 ghost use Rattle.std.specs.Prelude.{◌≡◌};
 ghost use Rattle.producer.specs.Answers.{end};
 ghost use Rattle.producer.specs.Machine.{machine};
-ghost use Rattle.run.specs.Call.{with_term, with_sides, by_code, with_context, called};
+ghost use Rattle.run.specs.Call.{with_term, with_sides, by_code, with_scope, with_context, called};
 
 use crate::build::{DEPTH, build, scope};
 use ast::cells::{Node, quote};
@@ -33,7 +33,7 @@ pub fn call(
 }
 
 // The context of a call, whose types start at `at`; then the function of its code.
-#[tactic(auto, unfolding(crate::specs::Call::with_context, crate::proofs::Steps::steps))]
+#[tactic(auto, unfolding(crate::specs::Call::with_context))]
 pub fn enter_context(
     state: State,
     left: u32,
@@ -45,8 +45,37 @@ pub fn enter_context(
 ) -> Answer<(u32, u32)>
     ensures { end result rows.new cells.new ≡ with_context left bytes.now at head (machine rows.old cells.old state) }
 {
+    let CallHead { code, dims, size } = head;
+    enter_scope(
+        state,
+        left,
+        bytes,
+        at,
+        code.number(),
+        dims,
+        size,
+        rows,
+        cells,
+    )
+}
+
+// The same of any byte as a code.
+#[tactic(auto, unfolding(crate::specs::Call::with_scope, crate::proofs::Steps::steps))]
+pub fn enter_scope(
+    state: State,
+    left: u32,
+    bytes: &[u8],
+    at: u32,
+    code: u8,
+    dims: u8,
+    size: u8,
+    rows: &mut [u32],
+    cells: &mut [u32],
+) -> Answer<(u32, u32)>
+    ensures { end result rows.new cells.new ≡ with_scope left bytes.now at code dims size (machine rows.old cells.old state) }
+{
     let (s1, nil) = state.prepare(left, rows, cells, Node::new(Kind::Nil, 0, 0, 0))?;
-    let (s2, (g, terms)) = scope(s1, u32::from(head.size), bytes, at, rows, cells, nil)?;
+    let (s2, (g, terms)) = scope(s1, u32::from(size), bytes, at, rows, cells, nil)?;
     enter(
         s2,
         left,
@@ -54,8 +83,8 @@ pub fn enter_context(
         terms,
         rows,
         cells,
-        head.code.number(),
-        u32::from(head.dims),
+        code,
+        u32::from(dims),
         g,
     )
 }

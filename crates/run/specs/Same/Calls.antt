@@ -16,7 +16,7 @@ use Rattle.syntax.specs.Calls.{TermsAt, no_terms, next_term, CallAt, CallFits, c
 use Rattle.syntax.specs.Fuel.{fit_term}
 use Rattle.link.specs.Asked.{build_term, build_context, call_ctx, call_universe, call_infer, call_check, call_normalize, call_equal}
 use Rattle.run.specs.Build.{made, built, scoped, scoped_body}
-use Rattle.run.specs.Call.{row_alone, row_first, row_quoted, with_sides, with_term, by_code, with_context}
+use Rattle.run.specs.Call.{row_alone, row_first, row_quoted, with_sides, with_term, by_code, with_scope, with_context}
 use Rattle.run.specs.Same.Steps.{then_same, then_then, then_give, give_then, made_then, made_in}
 use Rattle.run.specs.Same.Terms.{up_is, built_term}
 
@@ -110,7 +110,7 @@ module _ (bytes : List ℕ) (left d : ℕ) (types : List Term) where
 
 -- a call that was read and that fits
 pub called_is : (bytes : List ℕ) → length bytes ≤ 65536 → (left at : ℕ) {call : Call} {next n : ℕ} → CallAt bytes at call next → size_call call ≡ fits n → with_context left bytes (up (up (up at))) (head_in call.code call.dims (length call.types)) ≡ by_call (callees left) call.code call.dims (scope_of Nil call.types) call.terms
-unfolding with_context
+unfolding with_context with_scope
 called_is bytes short left at {call} {next} {n} C z =
     let F : CallFits call n = call_fits call z in
     let u₁ : up at ≡ at + 1 = up_is at (omega (arith, C.far, C.inside)) in
