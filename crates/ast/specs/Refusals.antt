@@ -27,3 +27,4 @@ refusal_number refusal.Nesting = 19
 refusal_number refusal.Cells = 20
 refusal_number refusal.NoSigma = 21
 refusal_number refusal.Annotation = 22
+refusal_number refusal.Count = 23

@@ -49,6 +49,8 @@ pub enum Refusal {
     NoSigma = 21,
     // The annotation of a pair is not written as a sigma.
     Annotation = 22,
+    // The count of its types is 0 or above 16.
+    Count = 23,
 }
 
 impl Refusal {

@@ -4,7 +4,7 @@ use Rattle.std.proofs.Math.Option.{Option, none, some}
 use Rattle.ast.specs.declared.refusals.Refusal.{Refusal}
 use Rattle.ast.specs.declared.refusals.Refusal.TheVariants as refusal
 use Rattle.walk.specs.Syntax.{Term}
-use Rattle.walk.specs.Reader.{Read, got, bad, Code, c_context, c_universe, c_infer, c_check, c_normalise, c_equal, terms_of, Head, Call, read_term, read_terms, read_head, read_call, read_run}
+use Rattle.walk.specs.Reader.{Read, got, bad, Code, c_context, c_universe, c_infer, c_check, c_normalise, c_equal, c_many, terms_of, Head, Call, read_term, read_terms, read_head, read_call, read_run}
 use Rattle.walk.specs.Limits.{Sized, fits, scope_over, size_over, index_over, size_call}
 use Rattle.syntax.specs.declared.scan.Fault.{Fault}
 use Rattle.syntax.specs.declared.scan.Unread.{Unread}
@@ -64,9 +64,10 @@ code_number c_infer = 2
 code_number c_check = 3
 code_number c_normalise = 4
 code_number c_equal = 5
+code_number c_many = 6
 
 abbrev pub highest_code : ℕ
-highest_code = 5
+highest_code = 6
 
 -- end of numbers of codes
 
@@ -79,6 +80,7 @@ code_told c_infer = Infer
 code_told c_check = Check
 code_told c_normalise = Normalise
 code_told c_equal = Equal
+code_told c_many = Many
 
 -- end of codes told
 
@@ -90,6 +92,7 @@ code_of Infer = c_infer
 code_of Check = c_check
 code_of Normalise = c_normalise
 code_of Equal = c_equal
+code_of Many = c_many
 
 -- end of codes of the program
 

@@ -13,6 +13,7 @@ pub enum Code {
     Check = 3,
     Normalise = 4,
     Equal = 5,
+    Many = 6,
 }
 
 impl Code {
@@ -28,6 +29,7 @@ impl Code {
             3 => Some(Code::Check),
             4 => Some(Code::Normalise),
             5 => Some(Code::Equal),
+            6 => Some(Code::Many),
             _ => None,
         }
     }
@@ -51,6 +53,7 @@ impl Code {
             Code::Check => 2,
             Code::Normalise => 2,
             Code::Equal => 3,
+            Code::Many => 1,
         }
     }
 }
