@@ -3,6 +3,7 @@ mod Bytes
 mod Over
 mod Stack
 mod Terms
+mod Sends
 mod Runs
 mod Measure
 mod Depths

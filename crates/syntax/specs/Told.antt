@@ -4,13 +4,13 @@ use Rattle.std.proofs.Math.Option.{Option, none, some}
 use Rattle.ast.specs.declared.refusals.Refusal.{Refusal}
 use Rattle.ast.specs.declared.refusals.Refusal.TheVariants as refusal
 use Rattle.walk.specs.Syntax.{Term}
-use Rattle.walk.specs.Reader.{Read, got, bad, Code, c_context, c_universe, c_infer, c_check, c_normalise, c_equal, c_many, terms_of, Head, Call, read_term, read_terms, read_head, read_call, read_run}
+use Rattle.walk.specs.Reader.{Read, got, bad, Code, c_context, c_universe, c_infer, c_check, c_normalise, c_equal, c_many, terms_of, Head, Call, Sent, all_calls, read_term, read_terms, read_head, read_call, read_run}
 use Rattle.walk.specs.Limits.{Sized, fits, scope_over, size_over, index_over, size_call}
 use Rattle.syntax.specs.declared.scan.Fault.{Fault}
 use Rattle.syntax.specs.declared.scan.Unread.{Unread}
 use Rattle.syntax.specs.declared.scan.Unread.TheVariants.{Bad, Short}
 use Rattle.syntax.specs.declared.calls.Code.{Code as CallCode}
-use Rattle.syntax.specs.declared.calls.Code.TheVariants.{Context, Universe, Infer, Check, Normalise, Equal}
+use Rattle.syntax.specs.declared.calls.Code.TheVariants.{Context, Universe, Infer, Check, Normalise, Equal, Many}
 use Rattle.syntax.specs.declared.scan.CallHead.{CallHead}
 use Rattle.syntax.specs.declared.scan.Scanned.{Scanned}
 use Rattle.syntax.specs.declared.scan.RefusedRun.{RefusedRun}
@@ -136,8 +136,8 @@ refused_unread (Bad place) = refused_at refusal.Unread place
 refused_unread Short = refused_at refusal.Bytes 0
 
 -- The calls that are read, after so many.
-unfoldable pub counted : ℕ → ℕ → Read (List Call) → Result Scanned RefusedRun
-counted limit n (got calls rest at) = calls_read limit (n + length calls)
+unfoldable pub counted : ℕ → ℕ → Read (List Sent) → Result Scanned RefusedRun
+counted limit n (got sents rest at) = calls_read limit (n + length (all_calls sents))
 counted limit n (bad place) = Err (refused_at refusal.Unread place)
 
 unfoldable pub told : Read (ℕ × List Call) → Result Scanned RefusedRun

@@ -8,6 +8,7 @@ mod lent;
 pub mod limits;
 mod parts;
 pub mod scan;
+pub mod sent;
 
 pub use calls::Code;
 pub use codes::call_codes;
@@ -18,3 +19,4 @@ pub use scan::{
     CallHead, Fault, RefusedRun, Scanned, Unread, read_head, scan_run, skip_call, skip_term,
     terms_of,
 };
+pub use sent::{Checks, Sent, sent_at};
