@@ -8,4 +8,5 @@ mod Runs
 mod Measure
 mod Depths
 mod Counts
+mod Drafts
 mod Coded

@@ -4,8 +4,8 @@ use Rattle.std.proofs.Math.Option.{Option, none, some}
 use Rattle.ast.specs.declared.refusals.Refusal.{Refusal}
 use Rattle.ast.specs.declared.refusals.Refusal.TheVariants as refusal
 use Rattle.walk.specs.Syntax.{Term}
-use Rattle.walk.specs.Reader.{Read, got, bad, Code, c_context, c_universe, c_infer, c_check, c_normalise, c_equal, c_many, terms_of, Head, Call, Sent, all_calls, read_term, read_terms, read_head, read_call, read_run}
-use Rattle.walk.specs.Limits.{Sized, fits, scope_over, size_over, index_over, size_call}
+use Rattle.walk.specs.Reader.{Read, got, bad, Code, c_context, c_universe, c_infer, c_check, c_normalise, c_equal, c_many, terms_of, Head, Call, check_of, Sent, all_calls, read_term, read_terms, read_head, read_call, read_run}
+use Rattle.walk.specs.Limits.{Sized, fits, scope_over, size_over, index_over, size_term, size_call}
 use Rattle.syntax.specs.declared.scan.Fault.{Fault}
 use Rattle.syntax.specs.declared.scan.Unread.{Unread}
 use Rattle.syntax.specs.declared.scan.Unread.TheVariants.{Bad, Short}
@@ -169,3 +169,25 @@ size_of (bad place) = Err (NotRead (Bad place))
 unfoldable pub size_in : Bool → Read Call → Result Fitting Unfit
 size_in true r = Err (NotRead Short)
 size_in false r = size_of r
+
+-- Of a call that has its term alone, the check of that at a type that stands elsewhere: the same, with the offset past the type.
+
+unfoldable pub size_draft : Read Call → Read Term → Result Fitting Unfit
+size_draft (got call rest next) (got ty rest' end) = sized (size_call (check_of call ty)) call end
+size_draft (got call rest next) (bad place) = Err (NotRead (Bad place))
+size_draft (bad place) r = Err (NotRead (Bad place))
+
+unfoldable pub size_draft_in : Bool → Read Call → Read Term → Result Fitting Unfit
+size_draft_in true c r = Err (NotRead Short)
+size_draft_in false c r = size_draft c r
+
+-- Such a type, after so many nodes of a call with this head.
+unfoldable pub sized_as : Sized → CallHead → ℕ → Result Fitting Unfit
+sized_as (fits nodes) head next = fits_to head nodes next
+sized_as scope_over head next = Err (Over refusal.Scope next)
+sized_as size_over head next = Err (Over refusal.Size next)
+sized_as index_over head next = Err (Over refusal.Index next)
+
+unfoldable pub size_type : CallHead → ℕ → Read Term → Result Fitting Unfit
+size_type head before (got ty rest end) = sized_as (size_term ty 0 before) head end
+size_type head before (bad place) = Err (NotRead (Bad place))

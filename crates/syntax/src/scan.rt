@@ -86,7 +86,7 @@ impl From<Unread> for RefusedRun {
 
 impl Lent<'_> {
     // One term from an offset on. A word of the stack is a part.
-    fn term(&mut self, from: usize) -> Result<usize, Unread>
+    pub fn term(&mut self, from: usize) -> Result<usize, Unread>
         ensures same { self.new.bytes ≡ self.old.bytes }
         ensures value { result ≡ next_of (term_at self.old.bytes.now from) }
     {
