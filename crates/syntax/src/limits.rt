@@ -164,11 +164,10 @@ impl Lent<'_> {
         ensures { result ≡ size_type head nodes (term_at self.old.bytes.now ty) }
     {
         match self.term_size(ty, nodes) {
-            Ok(counted) => Ok(Fitting {
-                head,
-                nodes: counted.nodes,
-                next: counted.next,
-            }),
+            Ok(counted) => {
+                let Counted { nodes, next } = counted;
+                Ok(Fitting { head, nodes, next })
+            }
             Err(Uncounted::Bad(place)) => Err(Unfit::Unread(Unread::Bad(place))),
             Err(Uncounted::Refused(refusal)) => {
                 let next = self.term(ty)?;
