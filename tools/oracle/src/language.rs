@@ -236,7 +236,8 @@ pub fn rule_number(name: &str) -> usize {
     place.unwrap_or_else(|| panic!("no rule is named {name}"))
 }
 
-/// How many terms a call of each code has; the highest number of a refusal.
+/// How many terms a call of each code has; the code that has a count and that many
+/// types after them; the highest number of a refusal.
 // written by tools/written.py: calls and refusals
 pub const CALLS: [usize; 7] = [0, 1, 1, 2, 2, 3, 1];
 pub const MANY: u8 = 6;
