@@ -17,11 +17,25 @@ KINDS = [
 EVERY_KIND = [pair for _, group in KINDS for pair in group]
 
 
+def number_method(enum, has, law, pairs):
+    """The method that gives a variant's number: the enum, what has the number, its definition, and each variant with its number."""
+    arms = ''.join('            %s::%s => %d,\n' % (enum, name, number) for name, number in pairs)
+    return f'''    // Its number, as {has} has it.
+    #[tactic(auto, unfolding(crate::specs::{law}))]
+    pub fn number(self) -> u32
+        ensures {{ result ≡ {law.split('::')[1]} self }}
+    {{
+        match self {{
+{arms}            {enum}::Other(number) => number,
+        }}
+    }}
+'''
+
+
 @whole('crates/ast/src/kinds.rt')
 def _():
     variants = ''.join('    // %s\n%s' % (says, ''.join('    %s,\n' % name for name, _ in group)) for says, group in KINDS)
     arms = ''.join('            %d => Kind::%s,\n' % (number, name) for name, number in EVERY_KIND)
-    back = ''.join('            Kind::%s => %d,\n' % pair for pair in EVERY_KIND)
     return f'''// The kinds of cells.
 // {NOTE}
 ghost use Rattle.std.specs.Prelude.{{◌≡◌}};
@@ -45,16 +59,7 @@ impl Kind {{
         }}
     }}
 
-    // Its number, as a cell has it.
-    #[tactic(auto, unfolding(crate::specs::Kinds::kind_number))]
-    pub fn number(self) -> u32
-        ensures {{ result ≡ kind_number self }}
-    {{
-        match self {{
-{back}            Kind::Other(number) => number,
-        }}
-    }}
-}}
+{number_method('Kind', 'a cell', 'Kinds::kind_number', EVERY_KIND)}}}
 '''
 
 
@@ -130,7 +135,7 @@ REFUSED = [[(camel(name), number, because) for number, name, because in group] f
 def _():
     groups = '\n'.join('\n'.join('    // %s.\n    %s,' % (because[0].upper() + because[1:], name) for name, _, because in group)
                        for group in REFUSED)
-    numbers = ''.join('            Refusal::%s => %d,\n' % (name, number) for group in REFUSED for name, number, _ in group)
+    numbers = [(name, number) for group in REFUSED for name, number, _ in group]
     return f'''// The refusals: of a whole run, of a call before it is walked, of a call where the walk stops.
 // {NOTE}
 ghost use Rattle.std.specs.Prelude.{{◌≡◌}};
@@ -144,16 +149,7 @@ pub enum Refusal {{
 }}
 
 impl Refusal {{
-    // Its number, as an answer has it.
-    #[tactic(auto, unfolding(crate::specs::Refusals::refusal_number))]
-    pub fn number(self) -> u32
-        ensures {{ result ≡ refusal_number self }}
-    {{
-        match self {{
-{numbers}            Refusal::Other(number) => number,
-        }}
-    }}
-}}
+{number_method('Refusal', 'an answer', 'Refusals::refusal_number', numbers)}}}
 '''
 
 
@@ -191,7 +187,7 @@ def words(judgment, separator, gives):
 @whole('crates/producer/src/codes.rt')
 def _():
     rules = ''.join('    %s,\n' % camel(r.name) for r in RULES)
-    numbers = ''.join('            Rule::%s => %d,\n' % (camel(r.name), r.number) for r in RULES)
+    numbers = [(camel(r.name), r.number) for r in RULES]
     judgments = ''.join('    // %s.\n    %s(%s),\n' % (j.meaning, camel(j.name), ', '.join(['u32'] * len(j.parts))) for j in JUDGMENTS)
     arms = ''
     for j in JUDGMENTS:
@@ -210,16 +206,7 @@ pub enum Rule {{
 }}
 
 impl Rule {{
-    // Its number, as a row has it.
-    #[tactic(auto, unfolding(crate::specs::Judgments::rule_number))]
-    pub fn number(self) -> u32
-        ensures {{ result ≡ rule_number self }}
-    {{
-        match self {{
-{numbers}            Rule::Other(number) => number,
-        }}
-    }}
-}}
+{number_method('Rule', 'a row', 'Judgments::rule_number', numbers)}}}
 
 // What a row states: of numbers, and of quotes by their lowest cells.
 #[derive(Clone, Copy)]
