@@ -18,7 +18,8 @@ Judgment = namedtuple('Judgment', 'number name parts meaning')
 # A rule by its number and name: the judgment that it concludes, and its lines, each the premises and the conclusion as patterns in the
 # listing's notation (crates/schemas, Parse): a capital letter is a hole, of a number where it is D or one of I to N; N+ is the number after N.
 Rule = namedtuple('Rule', 'number name judgment lines')
-Call = namedtuple('Call', 'code name terms enters')
+# counted: whether a count and that many types come after the terms.
+Call = namedtuple('Call', 'code name terms enters counted', defaults=[False])
 Refusal = namedtuple('Refusal', 'number name because')
 RunRefusal = namedtuple('RunRefusal', 'number name because place')
 
@@ -227,7 +228,7 @@ RULES = ruled([
     (116, 'dsubst.snd', '(dsubst P K S Q)', '(dsubst (snd P) K S (snd Q))'),
 ])
 
-# ---- Calls: the code, the terms that follow the context, the reference function that is entered.
+# ---- Calls: the code, the terms that follow the context, the reference function that is entered. Of code 6 each type is a check.
 
 CALLS = [
     Call(0, 'context', [], 'ctx'),
@@ -236,6 +237,7 @@ CALLS = [
     Call(3, 'check', ['t', 'type'], 'check'),
     Call(4, 'normalise', ['t', 'type'], 'normalize'),
     Call(5, 'equal', ['left', 'right', 'type'], 'equal'),
+    Call(6, 'many', ['t'], 'check', counted=True),
 ]
 
 # ---- Refusals, in the order of their numbers. Of a run as a whole, each with the place that is told:
@@ -275,6 +277,12 @@ REFUSALS = [
     Refusal(20, 'cells', 'a new cell is needed, and none is left, or 4,294,967,295 are used'),
     Refusal(21, 'no-sigma', 'the subject of a projection has no sigma type after `expose`'),
     Refusal(22, 'annotation', 'the annotation of a pair is not written as a sigma'),
+]
+
+# Of a call of code 6, before 5:
+
+COUNTS = [
+    Refusal(23, 'count', 'the count of its types is 0 or above 16'),
 ]
 
 # ---- Ahead of the program: what a change request adds that has not landed. The tools in Rust have it behind a switch (tools/oracle/README.md);

@@ -82,6 +82,9 @@ class Left:
         return '\n'.join(lines) + '\n'
 
 
+CHECK = next(c.code for c in CALLS if c.name == 'check')
+
+
 def past_node(run, at):
     kind = NODES[run[at]]
     at += 1
@@ -91,14 +94,19 @@ def past_node(run, at):
 
 
 def codes_of(run):
-    """The code of each call of a run that is read."""
+    """The code of each call of a run that is read: a check for each of many types."""
     codes, at = [], 2
     while at < len(run):
         code, types = run[at], run[at + 2]
-        codes.append(code)
         at += 3
         for _ in range(types + len(CALLS[code].terms)):
             at = past_node(run, at)
+        count = 0
+        if CALLS[code].counted:
+            count, at = run[at], at + 1
+            for _ in range(count):
+                at = past_node(run, at)
+        codes += [CHECK] * count if 1 <= count <= 16 else [code]
     return codes
 
 

@@ -3,7 +3,7 @@ import re
 import sys
 
 from language import AHEAD_REFUSALS, AHEAD_RULES, AHEAD_TERMS  # noqa: F401
-from language import CALLS, CONTEXTS, INFERENCE, INTERVALS, JUDGMENTS, LIMITS, REFUSALS, RULES, RUN_REFUSALS, TERMS  # noqa: F401
+from language import CALLS, CONTEXTS, COUNTS, INFERENCE, INTERVALS, JUDGMENTS, LIMITS, REFUSALS, RULES, RUN_REFUSALS, TERMS  # noqa: F401
 
 ALL = TERMS + INTERVALS + CONTEXTS
 NOTE = 'Written by tools/written.py from tools/language.py; `python3 tools/written.py` makes it again.'
@@ -51,7 +51,7 @@ def well_formed():
 # ---- refusals
 
 def refusals():
-    """Three groups, each with what it is of, and for each number its name and what it says."""
+    """Four groups, each with what it is of, and for each number its name and what it says."""
     runs = {}
     for r in RUN_REFUSALS:
         runs.setdefault((r.number, r.name), []).append(r.because)
@@ -59,6 +59,7 @@ def refusals():
         ('of a run', [(number, name, '; or '.join(because)) for (number, name), because in runs.items()]),
         ('of a call, before it is walked', [tuple(r) for r in LIMITS]),
         ('of a call, where the walk stops', [tuple(r) for r in REFUSALS]),
+        ('of a call with many types, before 5', [tuple(r) for r in COUNTS]),
     ]
 
 

@@ -1,7 +1,7 @@
 """docs/FORMAT.md: the lists of calls, kinds, refusals, judgments and rules."""
 import re
 
-from .common import CALLS, INTERVALS, JUDGMENTS, LIMITS, REFUSALS, RULES, RUN_REFUSALS, TERMS, section
+from .common import CALLS, COUNTS, INTERVALS, JUDGMENTS, LIMITS, REFUSALS, RULES, RUN_REFUSALS, TERMS, section
 
 FORMAT = 'docs/FORMAT.md'
 
@@ -13,7 +13,7 @@ def node(k):
 @section(FORMAT, 'calls')
 def _():
     return ['| code | call | terms | enters |', '|---|---|---|---|'] + [
-        '| %d | %s | %s | `%s` |' % (c.code, c.name, ', '.join(c.terms) or 'none', c.enters) for c in CALLS]
+        '| %d | %s | %s | `%s` |' % (c.code, c.name, ', '.join(c.terms + ['a count, that many types'] * c.counted) or 'none', c.enters) for c in CALLS]
 
 
 @section(FORMAT, 'kinds')
@@ -35,7 +35,7 @@ def _():
 
 @section(FORMAT, 'refusals of a call')
 def _():
-    return ['| number | the call is refused because |', '|---|---|'] + ['| %d | %s |' % (r.number, r.because) for r in LIMITS + REFUSALS]
+    return ['| number | the call is refused because |', '|---|---|'] + ['| %d | %s |' % (r.number, r.because) for r in LIMITS + REFUSALS + COUNTS]
 
 
 @section(FORMAT, 'judgments')

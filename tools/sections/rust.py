@@ -1,6 +1,6 @@
 """The tools in Rust: the tables that the oracle and the comparison read, the oracle's nodes, the generator's terms."""
 from . import common
-from .common import (AHEAD_REFUSALS, AHEAD_RULES, AHEAD_TERMS, CALLS, CONTEXTS, INFERENCE, INTERVALS, JUDGMENTS, LIMITS, NOTE, REFUSALS,
+from .common import (AHEAD_REFUSALS, AHEAD_RULES, AHEAD_TERMS, CALLS, CONTEXTS, COUNTS, INFERENCE, INTERVALS, JUDGMENTS, LIMITS, NOTE, REFUSALS,
                      parts_of, section, vars_of, whole)
 
 # These tools know what stands ahead of the program too.
@@ -60,14 +60,15 @@ def _():
 @section(TABLES, 'calls and refusals')
 def _():
     return ['pub const CALLS: [usize; %d] = [%s];' % (len(CALLS), ', '.join(str(len(c.terms)) for c in CALLS)),
-            'pub const LAST_REFUSAL: usize = %d;' % (LIMITS + REFUSALS + AHEAD_REFUSALS)[-1].number]
+            'pub const MANY: u8 = %d;' % next(c.code for c in CALLS if c.counted),
+            'pub const LAST_REFUSAL: usize = %d;' % (LIMITS + REFUSALS + COUNTS + AHEAD_REFUSALS)[-1].number]
 
 
 @section(TABLES, 'ahead of the program')
 def _():
     return ['pub const AHEAD_KINDS: [u8; %d] = [%s];' % (len(AHEAD_TERMS), ', '.join(str(k.byte) for k in AHEAD_TERMS)),
             'pub const LANDED_RULES: usize = %d;' % len(common.RULES),
-            'pub const LANDED_REFUSAL: usize = %d;' % (LIMITS + REFUSALS)[-1].number]
+            'pub const LANDED_REFUSAL: usize = %d;' % (LIMITS + REFUSALS + COUNTS)[-1].number]
 
 
 # ---- the oracle's nodes: the source's own constructors

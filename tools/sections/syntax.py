@@ -167,11 +167,12 @@ def _():
     variants = '\n'.join('    %s = %d,' % (variant(c), c.code) for c in CALLS)
     of = arms(lambda c: '%d => Some(Code::%s),' % (c.code, variant(c)))
     terms = arms(lambda c: 'Code::%s => %d,' % (variant(c), len(c.terms)))
+    counted = arms(lambda c: 'Code::%s => %s,' % (variant(c), 'true' if c.counted else 'false'))
     return f'''// The codes of calls: docs/FORMAT.md.
 // {NOTE}
 ghost use Rattle.std.specs.Prelude.{{◌≡◌, get_or}};
 ghost use Rattle.std.proofs.Math.Option.{{none}};
-ghost use Rattle.walk.specs.Reader.{{codes, terms_of}};
+ghost use Rattle.walk.specs.Reader.{{codes, terms_of, lists_types}};
 ghost use Rattle.syntax.specs.Told.{{code_number, code_of, code_in}};
 
 #[derive(Clone, Copy, Debug, PartialEq, Eq)]
@@ -205,6 +206,15 @@ impl Code {{
     {{
         match self {{
 {terms}
+        }}
+    }}
+
+    // Whether a count and that many types come after them.
+    pub fn lists_types(self) -> bool
+        ensures {{ result ≡ lists_types (code_of self) }}
+    {{
+        match self {{
+{counted}
         }}
     }}
 }}

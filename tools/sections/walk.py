@@ -1,6 +1,6 @@
 """crates/walk: the syntax, judgments, rules' numbers and names, the reader's tables, limits, the cells of what is counted."""
 from .common import (CALLS, INTERVALS, JUDGMENTS, NODE_TYPES, NOTE, QUOTE_TYPES, RULED, RULES, TAKEN, TERMS, TRANSFORMS, antt_name, arrows,
-                     by_byte, is_number, judgment, nested, node, one_taken, parts_of, refusals, section, shown, snake, vars_of, whole)
+                     by_byte, for_both, is_number, judgment, nested, node, one_taken, parts_of, refusals, section, shown, snake, vars_of, whole)
 
 SPECS = 'crates/walk/specs/'
 SYNTAX, JUDGMENT, READER, SIZES, STATE = (SPECS + f + '.antt' for f in ('Syntax', 'Judgment', 'Reader', 'Limits', 'State'))
@@ -220,7 +220,26 @@ def _():
         'codes = %s[]' % ''.join('some c_%s ∷ ' % c.name for c in CALLS),
         '',
         'abbrev pub terms_of : Code → ℕ',
-    ] + ['terms_of c_%s = %d' % (c.name, len(c.terms)) for c in CALLS]
+    ] + ['terms_of c_%s = %d' % (c.name, len(c.terms)) for c in CALLS] + [
+        '',
+        '-- Whether a count and that many types come after them.',
+        'abbrev pub lists_types : Code → Bool',
+    ] + ['lists_types c_%s = %s' % (c.name, 'true' if c.counted else 'false') for c in CALLS]
+
+
+# ---- Written: the bytes of a term, and of a code
+
+WRITTEN = SPECS + 'Written.antt'
+WRITES = {'number': '%s ∷ %s', 'term': 'write_term %s (%s)', 'interval': 'write_interval %s (%s)'}
+
+
+def writing(k, sort):
+    rest = nested(parts_of(k), lambda p, rest: WRITES[p[0].sort] % (p[1], rest), 'bs').replace('(bs)', 'bs')
+    return 'write_%s %s bs = %d ∷ %s' % (sort, node(k), k.byte, rest)
+
+
+for_both(WRITTEN, 'bytes of an %s', writing)
+section(WRITTEN, 'bytes of codes')(lambda: ['code_byte c_%s = %d' % (c.name, c.code) for c in CALLS])
 
 
 READS = {'number': 'byte', 'term': 'read_term f', 'interval': 'read_interval f'}

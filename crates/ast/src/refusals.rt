@@ -49,6 +49,8 @@ pub enum Refusal {
     NoSigma,
     // The annotation of a pair is not written as a sigma.
     Annotation,
+    // The count of its types is 0 or above 16.
+    Count,
     // Any other number.
     Other(u32),
 }
@@ -82,6 +84,7 @@ impl Refusal {
             Refusal::Cells => 20,
             Refusal::NoSigma => 21,
             Refusal::Annotation => 22,
+            Refusal::Count => 23,
             Refusal::Other(number) => number,
         }
     }

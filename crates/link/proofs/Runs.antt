@@ -1,6 +1,6 @@
 -- A list of calls over words: each call's four answer words say what the walk answers, and the words that are left stand for
 -- the walk's state: `runs`.
-use Rattle.std.specs.Prelude.{ℕ, ◌+◌, ◌≤◌, ◌≡◌, refl, List, [], ◌∷◌, length}
+use Rattle.std.specs.Prelude.{ℕ, ◌+◌, ◌≤◌, ◌≡◌, refl, List, [], ◌∷◌, Bool, true, false, length}
 use Rattle.std.proofs.Common.{sym, subst, arith}
 use Rattle.std.proofs.Math.Path.{ap}
 use Rattle.ast.specs.Cells.{quote_of}
@@ -11,9 +11,9 @@ use Rattle.producer.specs.Calls.{callees}
 use Rattle.walk.specs.Syntax.{Term, Context, Nil}
 use Rattle.walk.specs.State.{State, Thing, term, Outcome, with_deepest}
 use Rattle.walk.specs.Walk.{callees as walk_callees}
-use Rattle.walk.specs.Reader.{Code, c_context, c_universe, c_infer, c_check, c_normalise, c_equal, Call}
+use Rattle.walk.specs.Reader.{Code, c_context, c_universe, c_infer, c_check, c_normalise, c_equal, c_many, lists_types, Call}
 use Rattle.walk.specs.Limits.{Sized, fits, scope_over, size_over, index_over, size_call}
-use Rattle.walk.specs.Run.{a_term, Answer, answered, scope_of, nth, walk, play_sized, play, play_all}
+use Rattle.walk.specs.Run.{a_term, Answer, answered, scope_of, nth, walk, play_sized, play_counted, play, play_all}
 use Rattle.walk.specs.Run as R
 use Rattle.order.specs.Numbers.{context_top}
 use Rattle.order.specs.Guarded.{guarded}
@@ -26,7 +26,7 @@ use Rattle.link.specs.Store.{quote_is}
 use Rattle.link.specs.Holds.{Before, Holds, read_cell}
 use Rattle.link.specs.Linked.{Linked}
 use Rattle.link.specs.Link.{ready, link}
-use Rattle.link.specs.Asked.{Said, told, ask, turned, afresh, ask_sized, ask_all, start}
+use Rattle.link.specs.Asked.{Said, told, ask, turned, afresh, ask_sized, ask_counted, ask_call, ask_all, start}
 use Rattle.link.specs.Ends.{Ends, in_value, in_refusal}
 use Rattle.link.proofs.Ends.{starts, contexted, levelled, inferred, checked, normalised, equalled}
 use Rattle.link.specs.Runs.{Results, no_word, level_word, term_word, Says, Leaves, Fits, none_say, says_on, EndsRun}
@@ -49,6 +49,10 @@ module _ {A C : Type 0} {o : Before} {xs : List Thing} {Q : C → A → List Thi
 low_word : {o : Before} {w : Machine} {s : State} {n : ℕ} {t : Term} → Holds o w s → Cell n (term t) s.cells → Results s.cells (quote_of w.cells n) (a_term t)
 low_word {w = w} {n = n} {t = t} h c = let r = read_cell {x = term t} tt c same h in term_word {n = quote_of w.cells n} {t = t} (rw (quote_is r) r.lowest)
 
+-- a call that is not let in
+turned_leaves : {o : Before} {w : Machine} {s : State} (n : ℕ) → Fit s → Holds o w s → Leaves o s.cells (turned n, w) (R.refusal n 0, s)
+turned_leaves n f h = record { extends = same; holds = h; fit = f; says = record { number = refl; row = refl; deepest = refl; result = no_word } }
+
 -- over any functions that match the guarded walk's
 pub asked : {o : Before} {w : Machine} {s : State} {c : Callees} (n : ℕ) → Linked o (ready n) c (guarded n) → (code : Code) (d : ℕ) (g : Context) (ts : List Term) → d + n ≤ 4200 → context_top g ≤ 32 → Lows ts → Fit s → Holds o w s → Leaves o s.cells (ask c code d g ts w) (walk (walk_callees n) code d g ts s)
 unfolding ask walk
@@ -58,17 +62,15 @@ asked n L c_infer d g ts l i k f h = leaves _ _ _ _ (λ c a w s h q. record { sa
 asked n L c_check d g ts l i k f h = leaves _ _ _ _ (λ c a w s h q. record { same_row = q; same_result = no_word }) (checked n L d g (nth ts 0) (nth ts 1) l i (nth_low ts 0 k) (nth_low ts 1 k) f h)
 asked n L c_normalise d g ts l i k f h = leaves _ _ _ _ (λ c a w s h q. record { same_row = q.right; same_result = low_word h q.left }) (normalised n L d g (nth ts 0) (nth ts 1) l i (nth_low ts 0 k) (nth_low ts 1 k) f h)
 asked n L c_equal d g ts l i k f h = leaves _ _ _ _ (λ c a w s h q. record { same_row = q; same_result = no_word }) (equalled n L d g (nth ts 0) (nth ts 1) (nth ts 2) l i (nth_low ts 0 k) (nth_low ts 1 k) (nth_low ts 2 k) f h)
+asked n L c_many d g ts l i k f h = turned_leaves _ f h
 
 -- deepest starts from 0
 pub afresh_holds : {o : Before} {w : Machine} {s : State} → Holds o w s → Holds o (afresh w) (with_deepest 0 s)
 unfolding afresh with_deepest
 afresh_holds h = record { words = h.words; counts = rw h.counts; cells_fit = h.cells_fit; rows_fit = h.rows_fit; rows_index = h.rows_index; cells_index = h.cells_index }
 
-turned_leaves : {o : Before} {w : Machine} {s : State} (n : ℕ) → Fit s → Holds o w s → Leaves o s.cells (turned n, w) (R.refusal n 0, s)
-turned_leaves n f h = record { extends = same; holds = h; fit = f; says = record { number = refl; row = refl; deepest = refl; result = no_word } }
-
-pub asked_sized : {o : Before} {w : Machine} {s : State} (call : Call) → Fit s → Holds o w s → Leaves o s.cells (ask_sized (size_call call) call w) (play call s)
-unfolding play play_sized ask_sized with_deepest
+asked_sized : {o : Before} {w : Machine} {s : State} (call : Call) → Fit s → Holds o w s → Leaves o s.cells (ask_sized (size_call call) call w) (play_sized (size_call call) call s)
+unfolding play_sized ask_sized with_deepest
 asked_sized {o} {w} {s} call f h = go (size_call call) refl
   where
     go : (z : Sized) → size_call call ≡ z → Leaves o s.cells (ask_sized z call w) (play_sized z call s)
@@ -81,12 +83,20 @@ asked_sized {o} {w} {s} call f h = go (size_call call) refl
         let l = f.low in
         subst (λ (m : ℕ). Leaves o s.cells (ask (callees m) call.code call.dims (scope_of Nil call.types) call.terms (afresh w)) (walk (walk_callees s.limit) call.code call.dims (scope_of Nil call.types) call.terms (with_deepest 0 s))) (ap (λ (n : Counts). n.limit) (sym h.counts)) (asked {s = with_deepest 0 s} s.limit (link s.limit) call.code call.dims (scope_of Nil call.types) call.terms (omega arith) (scope_low Nil call.types (omega arith) k.types) k.terms f (afresh_holds h))
 
+pub asked_call : {o : Before} {w : Machine} {s : State} (call : Call) → Fit s → Holds o w s → Leaves o s.cells (ask_call call w) (play call s)
+unfolding play play_counted ask_counted
+asked_call {o} {w} {s} call f h = go (lists_types call.code)
+  where
+    go : (b : Bool) → Leaves o s.cells (ask_counted b call w) (play_counted b call s)
+    go true = turned_leaves _ f h
+    go false = asked_sized call f h
+
 pub asked_all : {o : Before} {w : Machine} {s : State} (calls : List Call) → Fit s → Holds o w s → EndsRun o s.cells (ask_all calls w) (play_all calls s)
 unfolding ask_all play_all
 asked_all [] f h = record { extends = same; holds = h; fit = f; says = none_say }
 asked_all {w = w} {s = s} (call ∷ calls) f h =
-    let a = asked_sized call f h in
-    let b = asked_all {w = (ask_sized (size_call call) call w).1} {s = (play call s).1} calls a.fit a.holds in
+    let a = asked_call call f h in
+    let b = asked_all {w = (ask_call call w).1} {s = (play call s).1} calls a.fit a.holds in
     record { extends = extends_trans a.extends b.extends; holds = b.holds; fit = b.fit; says = says_on (says_lift b.extends a.says) b.says }
 
 -- from the start, over slices that held anything

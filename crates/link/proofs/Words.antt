@@ -11,7 +11,6 @@ use Rattle.producer.specs.Machine.{Machine}
 use Rattle.walk.specs.Refusal as Refusal
 use Rattle.walk.specs.State.{State, Row, Thing}
 use Rattle.walk.specs.Reader.{Read, got, bad, Call, read_run}
-use Rattle.walk.specs.Limits.{size_call}
 use Rattle.walk.specs.Run.{Result, Answer, Ran, refused_run, played, play, play_all, run_read, run}
 use Rattle.walk.specs.Run as R
 use Rattle.walk.specs.Demand.{RowAt, newest, older, DerivationOrder, Demand3}
@@ -26,14 +25,14 @@ use Rattle.order.specs.Derivation.{derivation_order}
 use Rattle.order.specs.Theorem.{start_good, demand_3}
 use Rattle.link.specs.Lists.{Extends, same, more, blocks_length, stays}
 use Rattle.link.specs.Holds.{Before, Holds}
-use Rattle.link.specs.Asked.{Said, ask_sized, ask_all, start, four_words, written_over}
+use Rattle.link.specs.Asked.{Said, ask_call, ask_all, start, four_words, written_over}
 use Rattle.link.specs.Things.{no_cell}
 use Rattle.link.proofs.Things.{low_is}
 use Rattle.link.specs.Table.{table_at, TableWords, result_word, AnswerWords, AnswerAt, this_answer, later_answer}
 use Rattle.link.proofs.Back.{words_stay, table_stays, table_told, memory_told}
 use Rattle.link.proofs.Ends.{starts, past, past_cells}
 use Rattle.link.specs.Runs.{Results, no_word, level_word, term_word, AllSay, none_say, says_on}
-use Rattle.link.proofs.Runs.{asked_all, asked_sized, runs}
+use Rattle.link.proofs.Runs.{asked_all, asked_call, runs}
 use Rattle.link.specs.Words.{AskedWords}
 
 -- four words more in front
@@ -62,7 +61,7 @@ said_words (says_on {bs = bs} x xs) = let e = said_words xs in let f = suc-mul (
 pub said_calls : (calls : List Call) (w : Machine) → length (four_words (ask_all calls w).0) ≡ 4 * length calls
 unfolding four_words ask_all
 said_calls [] w = refl
-said_calls (call ∷ calls) w = let e = said_calls calls (ask_sized (size_call call) call w).1 in omega arith
+said_calls (call ∷ calls) w = let e = said_calls calls (ask_call call w).1 in omega arith
 
 -- the first calls of a list: the others only add rows and cells
 first_rows : (first others : List Call) (s : State) → Good s → Grows (play_all first s).1.rows (play_all (first ++ others) s).1.rows
@@ -73,7 +72,7 @@ first_rows (call ∷ first) others s g = first_rows first others (play call s).1
 first_cells : {o : Before} {w : Machine} {s : State} (first others : List Call) → Fit s → Holds o w s → Extends (play_all first s).1.cells (play_all (first ++ others) s).1.cells
 unfolding play_all
 first_cells [] others f h = (asked_all others f h).extends
-first_cells {w = w} {s = s} (call ∷ first) others f h = let a = asked_sized call f h in first_cells {w = (ask_sized (size_call call) call w).1} {s = (play call s).1} first others a.fit a.holds
+first_cells {w = w} {s = s} (call ∷ first) others f h = let a = asked_call call f h in first_cells {w = (ask_call call w).1} {s = (play call s).1} first others a.fit a.holds
 
 extends : {rs rs' : List Row} → Grows rs rs' → Extends rs rs'
 extends Grows.same = same

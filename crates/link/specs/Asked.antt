@@ -1,11 +1,11 @@
 -- The machine's run, from calls that were read: the cells of what is sent, each call, and its four answer words. Assumes nothing.
-use Rattle.std.specs.Prelude.{ℕ, ◌/◌, min, List, [], ◌∷◌, ◌++◌, length, drop}
+use Rattle.std.specs.Prelude.{ℕ, ◌/◌, min, List, [], ◌∷◌, ◌++◌, Bool, true, false, length, drop}
 use Rattle.ast.specs.Cells.{quote_of}
 use Rattle.producer.specs.Machine.{Machine, machine, new_state, fresh, Result, is, not, W, ◌>>=◌, make_universe, make_var, make_nat, make_zero, make_pi, make_lam, make_app, make_path, make_plam, make_papp, make_sigma, make_pair, make_fst, make_snd, make_i0, make_i1, make_dim, make_neg, make_meet, make_join, make_nil, make_cons}
 use Rattle.producer.specs.Callees.{Callees}
 use Rattle.producer.specs.Calls.{callees}
 use Rattle.walk.specs.Syntax.{Interval, I0, I1, Dim, Neg, Meet, Join, Term, Universe, Var, Nat, Zero, Pi, Lam, App, Path, PathLam, PathApp, Sigma, Pair, Fst, Snd, Context, Nil, Cons}
-use Rattle.walk.specs.Reader.{Code, c_context, c_universe, c_infer, c_check, c_normalise, c_equal, Call}
+use Rattle.walk.specs.Reader.{Code, c_context, c_universe, c_infer, c_check, c_normalise, c_equal, c_many, lists_types, Call}
 use Rattle.walk.specs.Refusal as Refusal
 use Rattle.walk.specs.Limits.{Sized, fits, scope_over, size_over, index_over, size_call}
 use Rattle.walk.specs.Run.{scope_of, nth}
@@ -80,6 +80,10 @@ told row result (not n w) = (record { number = n; row = 4294967295; result = 0; 
 abbrev pub lowest_of : ℕ × ℕ → Machine → ℕ
 lowest_of out w = quote_of w.cells out.0
 
+-- a call that is not let in
+abbrev pub turned : ℕ → Said
+turned n = record { number = n; row = 4294967295; result = 0; deepest = 0 }
+
 unfoldable pub ask : Callees → Code → ℕ → Context → List Term → Machine → Said × Machine
 ask c c_context d g ts w = told (λ row. row) (λ row w. 0) (call_ctx c d g w)
 ask c c_universe d g ts w = told (λ out. out.1) (λ out w. out.0) (call_universe c d g (nth ts 0) w)
@@ -87,10 +91,7 @@ ask c c_infer d g ts w = told (λ out. out.1) lowest_of (call_infer c d g (nth t
 ask c c_check d g ts w = told (λ row. row) (λ row w. 0) (call_check c d g (nth ts 0) (nth ts 1) w)
 ask c c_normalise d g ts w = told (λ out. out.1) lowest_of (call_normalize c d g (nth ts 0) (nth ts 1) w)
 ask c c_equal d g ts w = told (λ row. row) (λ row w. 0) (call_equal c d g (nth ts 0) (nth ts 1) (nth ts 2) w)
-
--- a call that is not let in
-abbrev pub turned : ℕ → Said
-turned n = record { number = n; row = 4294967295; result = 0; deepest = 0 }
+ask c c_many d g ts w = (turned Refusal.count, w)
 
 -- deepest starts from 0
 unfoldable pub afresh : Machine → Machine
@@ -102,11 +103,19 @@ ask_sized size_over call w = (turned Refusal.size, w)
 ask_sized index_over call w = (turned Refusal.index, w)
 ask_sized (fits n) call w = ask (callees w.state.limit) call.code call.dims (scope_of Nil call.types) call.terms (afresh w)
 
+-- of many types, where their count is wrong
+unfoldable pub ask_counted : Bool → Call → Machine → Said × Machine
+ask_counted true call w = (turned Refusal.count, w)
+ask_counted false call w = ask_sized (size_call call) call w
+
+abbrev pub ask_call : Call → Machine → Said × Machine
+ask_call call w = ask_counted (lists_types call.code) call w
+
 -- each call gets what the one before left
 unfoldable pub ask_all : List Call → Machine → List Said × Machine
 ask_all [] w = ([], w)
 ask_all (call ∷ calls) w =
-    let (said, w') = ask_sized (size_call call) call w in
+    let (said, w') = ask_call call w in
     let (saids, w'') = ask_all calls w' in
     (said ∷ saids, w'')
 

@@ -1,6 +1,6 @@
 -- An answer's words, as the contract has them, hold the call's answer: an accepted call has a result of its code's kind, since it
 -- has a judgment, and a refused one has none. So the calls' lines and repeats are the walk's. Assumes nothing.
-use Rattle.std.specs.Prelude.{ℕ, zero, suc, ◌+◌, ◌<◌, ◌≡◌, List, [], ◌∷◌, length, get_or}
+use Rattle.std.specs.Prelude.{ℕ, zero, suc, ◌+◌, ◌<◌, ◌≡◌, List, [], ◌∷◌, Bool, true, false, length, get_or}
 use Rattle.std.proofs.Math.Path.{refl}
 use Rattle.std.proofs.Common.{subst, arith, add-zero}
 use Rattle.std.proofs.Math.Option.{some}
@@ -8,9 +8,9 @@ use Rattle.walk.specs.Syntax.{Term, Context, quote}
 use Rattle.walk.specs.Judgment.{Judgment}
 use Rattle.walk.specs.State.{Row, Thing, State, Outcome, done, refused}
 use Rattle.walk.specs.Walk.Reference.{Callees}
-use Rattle.walk.specs.Reader.{Call, Code, c_context, c_universe, c_infer, c_check, c_normalise, c_equal}
+use Rattle.walk.specs.Reader.{Call, Code, c_context, c_universe, c_infer, c_check, c_normalise, c_equal, c_many, lists_types}
 use Rattle.walk.specs.Limits.{Sized, fits, scope_over, size_over, index_over, size_call}
-use Rattle.walk.specs.Run.{Result, no_result, a_level, a_term, Answer, answered, walk, play_sized, play, play_all}
+use Rattle.walk.specs.Run.{Result, no_result, a_level, a_term, Answer, answered, walk, play_sized, play_counted, play, play_all}
 use Rattle.walk.specs.Demand.{of_none, of_level, of_answer, judgment_of, Stated, AllStated, no_call, call_on}
 use Rattle.link.specs.Table.{quote_at, CellsWords, Named, AnswerWords, AnswerAt, this_answer, later_answer}
 use Rattle.link.proofs.Back.{names}
@@ -40,6 +40,7 @@ bare_walk c c_infer d g ts s = bare_answered _ _ _
 bare_walk c c_check d g ts s = bare_answered _ _ _
 bare_walk c c_normalise d g ts s = bare_answered _ _ _
 bare_walk c c_equal d g ts s = bare_answered _ _ _
+bare_walk c c_many d g ts s = record { bare = λ z. refl }
 
 bare_sized : (z : Sized) (call : Call) (s : State) → Bare (play_sized z call s).0
 unfolding play_sized
@@ -48,10 +49,15 @@ bare_sized size_over call s = record { bare = λ z. refl }
 bare_sized index_over call s = record { bare = λ z. refl }
 bare_sized (fits n) call s = bare_walk _ _ _ _ _ _
 
+bare_counted : (b : Bool) (call : Call) (s : State) → Bare (play_counted b call s).0
+unfolding play_counted
+bare_counted true call s = record { bare = λ z. refl }
+bare_counted false call s = bare_sized (size_call call) call s
+
 pub all_bare : (calls : List Call) (s : State) → AllBare (play_all calls s).0
 unfolding play_all play
 all_bare [] s = no_answer
-all_bare (call ∷ calls) s = bare_on (bare_sized (size_call call) call s) (all_bare calls (play call s).1)
+all_bare (call ∷ calls) s = bare_on (bare_counted (lists_types call.code) call s) (all_bare calls (play call s).1)
 
 -- results, by the code of an accepted call
 
@@ -82,6 +88,7 @@ module _ (n : ℕ) (C : List ℕ) (x : ℕ) where
   result_in c_check d types ts r e w = none_in c_check of_check r _ e
   result_in c_normalise d types ts r e w = term_in c_normalise (λ t q. of_normalise q) r _ e w
   result_in c_equal d types ts r e w = none_in c_equal of_equal r _ e
+  result_in c_many d types ts r e w = absurd (no_some e)
 
   ended : {rows : List Row} (call : Call) (a : Answer) → (a.number ≡ 0 → Stated rows call a) → Bare a → Named n C x a.result → Ended C x call.code a.number a.result
   ended call a stated b w = go a.number refl

@@ -2,3 +2,4 @@
 pub mod Bound
 pub mod Never
 pub mod Call
+pub mod Written

@@ -1,12 +1,12 @@
 -- No number in what a run leaves or answers passes `largest`.
-use Rattle.std.specs.Prelude.{ℕ, ◌+◌, ◌≤◌, ◌≡◌, refl, List, [], ◌∷◌, length}
+use Rattle.std.specs.Prelude.{ℕ, ◌+◌, ◌≤◌, ◌≡◌, refl, List, [], ◌∷◌, Bool, true, false, length}
 use Rattle.std.proofs.Common.{arith}
 use Rattle.walk.specs.Syntax.{Term, Context, Nil}
 use Rattle.walk.specs.State.{State, Outcome, M, with_deepest}
 use Rattle.walk.specs.Walk.{callees}
-use Rattle.walk.specs.Reader.{Code, c_context, c_universe, c_infer, c_check, c_normalise, c_equal, Call}
+use Rattle.walk.specs.Reader.{Code, c_context, c_universe, c_infer, c_check, c_normalise, c_equal, c_many, lists_types, Call}
 use Rattle.walk.specs.Limits.{Sized, fits, scope_over, size_over, index_over, size_call}
-use Rattle.walk.specs.Run.{Result, answered, scope_of, nth, walk, play_sized, play, play_all, start, run}
+use Rattle.walk.specs.Run.{Result, answered, scope_of, nth, walk, play_sized, play_counted, play, play_all, start, run}
 use Rattle.order.specs.Numbers.{context_top, result_top, at_most_nil, at_most_cons, NumbersBounded}
 use Rattle.order.specs.Bound.{Fit, no_rows, none_remembered, After, fine, stopped, Within}
 use Rattle.order.proofs.Bound.{fit_bounded, bounds}
@@ -31,10 +31,11 @@ walk_fair n c_infer d g ts s l i h f = let x = nth_low ts 0 h in fair _ _ (λ _ 
 walk_fair n c_check d g ts s l i h f = let x = nth_low ts 0 h in let y = nth_low ts 1 h in fair _ _ (λ _ _ _. omega arith) (plainly ((bounds n (omega arith)).check d g (nth ts 0) (nth ts 1) (omega arith)) f)
 walk_fair n c_normalise d g ts s l i h f = let x = nth_low ts 0 h in let y = nth_low ts 1 h in fair _ _ (λ _ _ k. k) (plainly ((bounds n (omega arith)).normalize d g (nth ts 0) (nth ts 1) (omega arith)) f)
 walk_fair n c_equal d g ts s l i h f = let x = nth_low ts 0 h in let y = nth_low ts 1 h in let z = nth_low ts 2 h in fair _ _ (λ _ _ _. omega arith) (plainly ((bounds n (omega arith)).equal d g (nth ts 0) (nth ts 1) (nth ts 2) (omega arith)) f)
+walk_fair n c_many d g ts s l i h f = record { result = omega arith; fit = f }
 
 pub play_fair : (call : Call) (s : State) → Fit s → Fair (play call s)
-unfolding play play_sized with_deepest
-play_fair call s f = go (size_call call) refl
+unfolding play play_counted play_sized with_deepest
+play_fair call s f = counted (lists_types call.code)
   where
     go : (z : Sized) → size_call call ≡ z → Fair (play_sized z call s)
     go scope_over e = record { result = omega arith; fit = f }
@@ -45,6 +46,10 @@ play_fair call s f = go (size_call call) refl
         let d = h.dims in
         let l = f.low in
         walk_fair s.limit call.code call.dims (scope_of Nil call.types) call.terms (with_deepest 0 s) (omega arith) (scope_low Nil call.types (omega arith) h.types) h.terms f
+
+    counted : (b : Bool) → Fair (play_counted b call s)
+    counted true = record { result = omega arith; fit = f }
+    counted false = go (size_call call) refl
 
 pub play_all_fair : (calls : List Call) (s : State) → Fit s → AllFair (play_all calls s)
 unfolding play_all

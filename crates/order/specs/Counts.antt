@@ -1,13 +1,13 @@
 -- The counts of calls and runs: conversions are counted off, rows and cells stay within their rooms, and deepest within the limit.
-use Rattle.std.specs.Prelude.{ℕ, ◌/◌, ◌≤◌, min, ◌≡◌, refl, List, [], ◌∷◌, length}
+use Rattle.std.specs.Prelude.{ℕ, ◌/◌, ◌≤◌, min, ◌≡◌, refl, List, [], ◌∷◌, Bool, true, false, length}
 use Rattle.std.proofs.Common.{arith}
 use Rattle.walk.specs.Syntax.{Term, Context, Nil}
 use Rattle.walk.specs.State.{State, Outcome, done, refused, M, with_deepest}
 use Rattle.walk.specs.Walk.Reference.{Callees}
 use Rattle.walk.specs.Walk.{callees}
-use Rattle.walk.specs.Reader.{Code, c_context, c_universe, c_infer, c_check, c_normalise, c_equal, Call}
+use Rattle.walk.specs.Reader.{Code, c_context, c_universe, c_infer, c_check, c_normalise, c_equal, c_many, lists_types, Call}
 use Rattle.walk.specs.Limits.{Sized, fits, scope_over, size_over, index_over, size_call}
-use Rattle.walk.specs.Run.{Result, Answer, answered, scope_of, nth, walk, play_sized, play, play_all, start, played, run, Ran}
+use Rattle.walk.specs.Run.{Result, Answer, answered, scope_of, nth, walk, play_sized, play_counted, play, play_all, start, played, run, Ran}
 use Rattle.order.specs.Numbers.{AtMost, at_most_nil, at_most_cons}
 use Rattle.order.specs.Later.{Grown, grown_refl, grown_trans, Later, fresh, left, Leads, AllLead, leads}
 use Rattle.order.specs.Cases.{run_cases}
@@ -33,16 +33,21 @@ walk_counts c L c_infer d g ts s = answered_counts (L.infer d g (nth ts 0)) _ _ 
 walk_counts c L c_check d g ts s = answered_counts (L.check d g (nth ts 0) (nth ts 1)) _ _ s
 walk_counts c L c_normalise d g ts s = answered_counts (L.normalize d g (nth ts 0) (nth ts 1)) _ _ s
 walk_counts c L c_equal d g ts s = answered_counts (L.equal d g (nth ts 0) (nth ts 1) (nth ts 2)) _ _ s
+walk_counts c L c_many d g ts s = record { grown = fresh s; deepest = omega arith }
 
 pub play_counts : (call : Call) (s : State) → CallCounts s (play call s)
-unfolding play play_sized
-play_counts call s = go (size_call call)
+unfolding play play_counted play_sized
+play_counts call s = let_in (lists_types call.code)
   where
     go : (z : Sized) → CallCounts s (play_sized z call s)
     go scope_over = record { grown = grown_refl s; deepest = omega arith }
     go size_over = record { grown = grown_refl s; deepest = omega arith }
     go index_over = record { grown = grown_refl s; deepest = omega arith }
     go (fits n) = walk_counts (callees s.limit) (leads s.limit) call.code call.dims (scope_of Nil call.types) call.terms s
+
+    let_in : (b : Bool) → CallCounts s (play_counted b call s)
+    let_in true = record { grown = grown_refl s; deepest = omega arith }
+    let_in false = go (size_call call)
 
 -- after calls in order
 pub record CallsCounts (s : State) (out : List Answer × State) : Type 0 where

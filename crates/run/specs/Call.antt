@@ -4,7 +4,7 @@ use Rattle.ast.specs.Words.{up}
 use Rattle.producer.specs.Machine.{W, ◌>>=◌, give, when◌then◌else◌, lowest, intern}
 use Rattle.producer.specs.Callees.{prepared}
 use Rattle.producer.specs.Calls.{callees}
-use Rattle.walk.specs.Reader.{c_context, c_universe, c_infer, c_check, c_normalise}
+use Rattle.walk.specs.Reader.{c_context, c_universe, c_infer, c_check, c_normalise, c_many}
 use Rattle.syntax.specs.declared.scan.CallHead.{CallHead}
 use Rattle.syntax.specs.Told.{code_number, code_of}
 use Rattle.run.specs.Build.{built, scoped}
@@ -39,27 +39,29 @@ with_term left bytes at code d g t = do
       (when eqb code (code_number c_normalise) then row_quoted ((callees left).normalize d g t u)
       else with_sides left bytes next d g t u)
 
--- the function of a code, whose terms start at an offset
-unfoldable pub by_code : ℕ → List ℕ → (at code d g : ℕ) → W (ℕ × ℕ)
-by_code left bytes at code d g =
+-- the function of a code, whose terms start at an offset; of a call with many types, the one that is checked stands at another
+unfoldable pub by_code : ℕ → List ℕ → (at ty code d g : ℕ) → W (ℕ × ℕ)
+by_code left bytes at ty code d g =
     when eqb code (code_number c_context) then row_alone ((callees left).ctx d g)
     else (do
       (t, next) ← built 33 bytes at
       when eqb code (code_number c_universe) then row_first ((callees left).universe d g t)
           else
           (when eqb code (code_number c_infer) then row_quoted ((callees left).infer d g t)
-          else with_term left bytes next code d g t))
+          else
+          (when eqb code (code_number c_many) then with_term left bytes ty (code_number c_check) d g t
+          else with_term left bytes next code d g t)))
 
 -- the function is entered, then its arguments are made: the context first, whose types start at an offset
-unfoldable pub with_scope : ℕ → List ℕ → (at code dims size : ℕ) → W (ℕ × ℕ)
-with_scope left bytes at code dims size = do
+unfoldable pub with_scope : ℕ → List ℕ → (at ty code dims size : ℕ) → W (ℕ × ℕ)
+with_scope left bytes at ty code dims size = do
   nil ← prepared (callees left) (intern 32 0 0 0)
   (g, terms) ← scoped size bytes at nil
-  by_code left bytes terms code dims g
+  by_code left bytes terms ty code dims g
 
-unfoldable pub with_context : ℕ → List ℕ → ℕ → CallHead → W (ℕ × ℕ)
-with_context left bytes at head = with_scope left bytes at (code_number (code_of head.code)) head.dims head.size
+unfoldable pub with_context : ℕ → List ℕ → (at ty : ℕ) → CallHead → W (ℕ × ℕ)
+with_context left bytes at ty head = with_scope left bytes at ty (code_number (code_of head.code)) head.dims head.size
 
 -- the call at an offset, which has this head; the whole limit is left
-unfoldable pub called : List ℕ → ℕ → CallHead → W (ℕ × ℕ)
-called bytes at head = λ w. with_context w.state.limit bytes (up (up (up at))) head w
+unfoldable pub called : List ℕ → (at ty : ℕ) → CallHead → W (ℕ × ℕ)
+called bytes at ty head = λ w. with_context w.state.limit bytes (up (up (up at))) ty head w

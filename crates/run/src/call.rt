@@ -13,23 +13,24 @@ use producer::answers::Answer;
 use syntax::{CallHead, Code};
 
 // The row and the result of the call at `at`, which has this head, or its refusal. A result that is a term is the lowest cell with
-// its quote.
+// its quote. Of a call with many types, the type at `ty` is checked; other codes have none there.
 #[tactic(auto, unfolding(crate::specs::Call::called, crate::proofs::Steps::steps, ast::specs::Words::up))]
 pub fn call(
     state: State,
     bytes: &[u8],
     at: u32,
+    ty: u32,
     head: CallHead,
     rows: &mut [u32],
     cells: &mut [u32],
 ) -> Answer<(u32, u32)>
-    ensures { end result rows.new cells.new ≡ called bytes.now at head (machine rows.old cells.old state) }
+    ensures { end result rows.new cells.new ≡ called bytes.now at ty head (machine rows.old cells.old state) }
 {
     let left = state.limit;
     let second = at.wrapping_add(1);
     let third = second.wrapping_add(1);
     let types = third.wrapping_add(1);
-    enter_context(state, left, bytes, types, head, rows, cells)
+    enter_context(state, left, bytes, types, ty, head, rows, cells)
 }
 
 // The context of a call, whose types start at `at`; then the function of its code.
@@ -39,11 +40,12 @@ pub fn enter_context(
     left: u32,
     bytes: &[u8],
     at: u32,
+    ty: u32,
     head: CallHead,
     rows: &mut [u32],
     cells: &mut [u32],
 ) -> Answer<(u32, u32)>
-    ensures { end result rows.new cells.new ≡ with_context left bytes.now at head (machine rows.old cells.old state) }
+    ensures { end result rows.new cells.new ≡ with_context left bytes.now at ty head (machine rows.old cells.old state) }
 {
     let CallHead { code, dims, size } = head;
     enter_scope(
@@ -51,6 +53,7 @@ pub fn enter_context(
         left,
         bytes,
         at,
+        ty,
         code.number(),
         dims,
         size,
@@ -66,13 +69,14 @@ pub fn enter_scope(
     left: u32,
     bytes: &[u8],
     at: u32,
+    ty: u32,
     code: u8,
     dims: u8,
     size: u8,
     rows: &mut [u32],
     cells: &mut [u32],
 ) -> Answer<(u32, u32)>
-    ensures { end result rows.new cells.new ≡ with_scope left bytes.now at code dims size (machine rows.old cells.old state) }
+    ensures { end result rows.new cells.new ≡ with_scope left bytes.now at ty code dims size (machine rows.old cells.old state) }
 {
     let (s1, nil) = state.prepare(left, rows, cells, Node::new(Kind::Nil, 0, 0, 0))?;
     let (s2, (g, terms)) = scope(s1, u32::from(size), bytes, at, rows, cells, nil)?;
@@ -81,6 +85,7 @@ pub fn enter_scope(
         left,
         bytes,
         terms,
+        ty,
         rows,
         cells,
         code,
@@ -89,20 +94,22 @@ pub fn enter_scope(
     )
 }
 
-// Enters the function of a code, which a byte may be or not; its terms start at `at`.
+// Enters the function of a code, which a byte may be or not; its terms start at `at`, and of a call with many types the one that is checked
+// at `ty`.
 #[tactic(auto, unfolding(crate::specs::Call::by_code, crate::proofs::Steps::steps))]
 pub fn enter(
     state: State,
     left: u32,
     bytes: &[u8],
     at: u32,
+    ty: u32,
     rows: &mut [u32],
     cells: &mut [u32],
     code: u8,
     d: u32,
     g: u32,
 ) -> Answer<(u32, u32)>
-    ensures { end result rows.new cells.new ≡ by_code left bytes.now at code d g (machine rows.old cells.old state) }
+    ensures { end result rows.new cells.new ≡ by_code left bytes.now at ty code d g (machine rows.old cells.old state) }
 {
     if code == Code::Context as u8 {
         let (s, row) = state.ctx(left, rows, cells, d, g)?;
@@ -114,8 +121,12 @@ pub fn enter(
         return Ok((s, (row, level)));
     }
     if code == Code::Infer as u8 {
-        let (s, (ty, row)) = s1.infer(left, rows, cells, d, g, t)?;
-        return Ok((s, (row, quote(cells, ty))));
+        let (s, (found, row)) = s1.infer(left, rows, cells, d, g, t)?;
+        return Ok((s, (row, quote(cells, found))));
+    }
+    if code == Code::Many as u8 {
+        let check = Code::Check as u8;
+        return enter_two(s1, left, bytes, ty, rows, cells, check, d, g, t);
     }
     enter_two(s1, left, bytes, next, rows, cells, code, d, g, t)
 }

@@ -4,20 +4,40 @@ ghost use Rattle.std.proofs.lemmas.List.Edits.{sets};
 ghost use Rattle.ast.specs.Refusals.{refusal_number};
 ghost use Rattle.producer.specs.Machine.{machine};
 ghost use Rattle.run.specs.Contract.{Runs};
-ghost use Rattle.run.specs.Run.{low_of, at_most, started, refused_of, answered_of, turn_end, turned, play_end, played, refused_run, end_run, run_of};
+ghost use Rattle.run.specs.Run.{low_of, at_most, started, first_spot, spot_after, refused_of, answered_of, turn_end, planned_alone, planned_type, planned_many, planned, turned, play_end, played, refused_run, end_run, run_of};
 
+use crate::build::byte;
 use crate::call::call;
 use ast::refusals::Refusal;
 use ast::words::put_all;
 use producer::State;
 use producer::answers::{Answer, Refused};
 use ran::Ran;
-use syntax::{STACK, Unfit, Unread, scan_run, size_call};
+use syntax::{
+    Checks, Code, Fitting, STACK, Sent, Unfit, Unread, scan_run, sent_at, size_call, size_draft,
+};
 
 // The row of a refused call.
 const NO_ROW: u32 = 4294967295;
 
-// What a call leaves: the counts, its answer, and where the next one starts.
+// Where the next call stands. It starts at `at`; or it is a check of the call with many types there, of which `left` types are still to be
+// checked, the first of them at `ty`.
+#[derive(Clone, Copy)]
+pub struct Spot {
+    pub at: usize,
+    pub ty: usize,
+    pub left: usize,
+}
+
+// The limits of the next call, and where its type stands and how many are to be checked after it, if it is a check of one with many types.
+#[derive(Clone, Copy)]
+pub struct Plan {
+    pub size: Result<Fitting, Unfit>,
+    pub ty: usize,
+    pub left: usize,
+}
+
+// What a call leaves: the counts, its answer, and where the next one stands.
 #[derive(Clone, Copy)]
 pub struct Turn {
     pub state: State,
@@ -25,7 +45,7 @@ pub struct Turn {
     pub row: u32,
     pub result: u32,
     pub deepest: u32,
-    pub next: usize,
+    pub next: Spot,
 }
 
 // The low 32 bits.
@@ -55,9 +75,29 @@ fn start(limit: usize, rows: usize, cells: usize) -> State
     State::new(most, rowroom, cellroom)
 }
 
+// The first call, at offset 2.
+const FIRST: Spot = Spot {
+    at: 2,
+    ty: 2,
+    left: 0,
+};
+
+// What stands past a call: the next one, or the next type of the same.
+#[tactic(auto, unfolding(crate::specs::Run::spot_after))]
+fn after(at: usize, next: usize, left: usize) -> Spot
+    ensures { result ≡ spot_after at next left }
+{
+    let from = if left == 0 { next } else { at };
+    Spot {
+        at: from,
+        ty: next,
+        left,
+    }
+}
+
 // A call that is refused before the walk.
 #[tactic(auto, unfolding(crate::specs::Run::refused_of))]
-fn refused(state: State, refusal: Refusal, next: usize) -> Turn
+fn refused(state: State, refusal: Refusal, next: Spot) -> Turn
     ensures { result ≡ refused_of state (refusal_number refusal) next }
 {
     Turn {
@@ -72,7 +112,7 @@ fn refused(state: State, refusal: Refusal, next: usize) -> Turn
 
 // A call that was walked.
 #[tactic(auto, unfolding(crate::specs::Run::answered_of))]
-fn answered(answer: Answer<(u32, u32)>, next: usize) -> Turn
+fn answered(answer: Answer<(u32, u32)>, next: Spot) -> Turn
     ensures { result ≡ answered_of answer next }
 {
     match answer {
@@ -95,30 +135,90 @@ fn answered(answer: Answer<(u32, u32)>, next: usize) -> Turn
     }
 }
 
-// The call at `at`: its limits first. In a run that was read, no size is bad or short.
+// A call that is no check of one with many types.
+#[tactic(auto, unfolding(crate::specs::Run::planned_alone))]
+fn alone(size: Result<Fitting, Unfit>, at: usize) -> Plan
+    ensures { result ≡ planned_alone size at }
+{
+    Plan {
+        size,
+        ty: at,
+        left: 0,
+    }
+}
+
+// A check of the call with many types at `at`, of which `count` are to be checked, the first of them at `ty`.
+#[tactic(auto, unfolding(crate::specs::Run::planned_type))]
+fn plan_type(bytes: &[u8], at: usize, ty: usize, count: usize, stack: &mut [u8]) -> Plan
+    ensures { result ≡ planned_type (length stack.old) bytes.now at ty count }
+{
+    Plan {
+        size: size_draft(bytes, at, ty, stack),
+        ty,
+        left: count.saturating_sub(1),
+    }
+}
+
+// The call with many types at `at`: its first check, or the refusal of its count.
+#[tactic(auto, unfolding(crate::specs::Run::planned_many, crate::specs::Run::planned_by))]
+fn plan_many(bytes: &[u8], at: usize, stack: &mut [u8]) -> Plan
+    ensures { result ≡ planned_many (length stack.old) bytes.now at }
+{
+    match sent_at(bytes, at, stack) {
+        Ok(Sent { next, checks }) => match checks {
+            Some(Checks { first, count }) => plan_type(bytes, at, first, count, stack),
+            None => alone(Err(Unfit::Refused(Refusal::Count, next)), at),
+        },
+        Err(unread) => alone(Err(Unfit::Unread(unread)), at),
+    }
+}
+
+// The limits of the call that stands there.
+#[tactic(auto, unfolding(crate::specs::Run::planned))]
+fn plan(bytes: &[u8], spot: Spot, stack: &mut [u8]) -> Plan
+    ensures { result ≡ planned (length stack.old) bytes.now spot }
+{
+    let Spot { at, ty, left } = spot;
+    if 0 < left {
+        return plan_type(bytes, at, ty, left, stack);
+    }
+    if byte(bytes, low(at)) == Code::Many as u32 {
+        return plan_many(bytes, at, stack);
+    }
+    alone(size_call(bytes, at, stack), at)
+}
+
+// The call that stands there: its limits first. In a run that was read, no size is bad or short.
 #[tactic(auto, unfolding(crate::specs::Run::turned, crate::specs::Run::turned_by, crate::proofs::Steps::steps))]
 fn step(
     state: State,
     bytes: &[u8],
-    at: usize,
+    spot: Spot,
     stack: &mut [u8],
     rows: &mut [u32],
     cells: &mut [u32],
 ) -> Turn
-    ensures { turn_end result rows.new cells.new ≡ turned (length stack.old) bytes.now at (machine rows.old cells.old state) }
+    ensures { turn_end result rows.new cells.new ≡ turned (length stack.old) bytes.now spot (machine rows.old cells.old state) }
 {
-    match size_call(bytes, at, stack) {
+    let Plan { size, ty, left } = plan(bytes, spot, stack);
+    let at = spot.at;
+    match size {
         Ok(fitting) => {
             let s = state.begin();
             let from = low(at);
+            let type_at = low(ty);
             answered(
-                call(s, bytes, from, fitting.head, rows, cells),
-                fitting.next,
+                call(s, bytes, from, type_at, fitting.head, rows, cells),
+                after(at, fitting.next, left),
             )
         }
-        Err(Unfit::Refused(refusal, next)) => refused(state, refusal, next),
-        Err(Unfit::Unread(Unread::Bad(place))) => refused(state, Refusal::Unread, place),
-        Err(Unfit::Unread(Unread::Short)) => refused(state, Refusal::Unread, at),
+        Err(Unfit::Refused(refusal, next)) => refused(state, refusal, after(at, next, left)),
+        Err(Unfit::Unread(Unread::Bad(place))) => refused(
+            state,
+            Refusal::Unread,
+            after(at, place, left),
+        ),
+        Err(Unfit::Unread(Unread::Short)) => refused(state, Refusal::Unread, after(at, at, left)),
     }
 }
 
@@ -129,7 +229,7 @@ fn put_answer(answers: &mut [u32], i: u32, number: u32, row: u32, res: u32, deep
     put_all(answers, (i as usize) * 4, &[number, row, res, deepest]);
 }
 
-// Plays so many calls, the first at offset 2.
+// Plays so many calls.
 #[tactic(auto, unfolding(crate::specs::Run::played, crate::proofs::Steps::steps))]
 fn play(
     state: State,
@@ -140,15 +240,15 @@ fn play(
     cells: &mut [u32],
     answers: &mut [u32],
 ) -> State
-    ensures { play_end result rows.new cells.new answers.new ≡ played calls (length stack.old) bytes.now 2 0 (machine rows.old cells.old state) answers.old }
+    ensures { play_end result rows.new cells.new answers.new ≡ played calls (length stack.old) bytes.now first_spot 0 (machine rows.old cells.old state) answers.old }
 {
     let mut s = state;
-    let mut at: usize = 2;
+    let mut spot = FIRST;
     for i in 0..calls {
-        let turn = step(s, bytes, at, stack, rows, cells);
+        let turn = step(s, bytes, spot, stack, rows, cells);
         put_answer(answers, i, turn.number, turn.row, turn.result, turn.deepest);
         s = turn.state;
-        at = turn.next;
+        spot = turn.next;
     }
     s
 }

@@ -1,68 +1,117 @@
 -- The loop that stores the codes of a run's calls.
-use Prim.Native.Nat.{ℕ, ◌+◌, ◌≤◌, ◌<◌}
-use mathlib.Core.Path.{◌≡◌, refl, sym, ap, ◌∙◌}
-use mathlib.Core.List.{List, [], ◌∷◌}
-use mathlib.Core.Bool.{Bool, true, false}
-use native.Mathlib.Omega.{arith}
-use native.Mathlib.Numerals.{add-one}
-use lib.Dec.{ltb}
-use borrow.Author.Tests.{ltb-false}
-use lib.ListN.{length, get_or, drop, set}
+use Rattle.std.proofs.Common.{ℕ, suc, ◌+◌, ◌-◌, ◌≤◌, ◌<◌, ◌≡◌, refl, sym, ap, ◌∙◌, List, [], ◌∷◌, ◌++◌, Bool, true, false, arith, ltb, ltb-false, length, get_or, drop, set, replicate, Result, Ok, Err, Some, None}
+use Rattle.std.proofs.lemmas.List.{length-replicate}
+use native.Mathlib.Nat.{add-zero, add-suc, suc-add}
+use native.Mathlib.Numerals.{add-one, sub-one}
 use lib.Seq.{sets}
-use Rattle.walk.specs.Reader.{Read, got, bad, Call, read_run}
-use Rattle.syntax.specs.Told.{code_number, call_at, next_of, next_in, told, unless_long, scanned}
+use Rattle.walk.specs.Syntax.{Term}
+use Rattle.walk.specs.Reader.{Read, got, bad, c_check, Call, Sent, checks_of, calls_of, all_calls, read_run}
+use Rattle.syntax.specs.Told.{code_number, told, unless_long, scanned}
+use Rattle.syntax.specs.Sent.{calls_sent, sent_in}
 use Rattle.syntax.specs.Kinds.{code_is}
-use Rattle.syntax.specs.Calls.{CallsAt, no_more, next_call, FirstCall, first_call, run_is}
+use Rattle.syntax.specs.Calls.{CallsAt, FirstCall, first_call, last_call, many_checks, run_is}
 use Rattle.syntax.specs.Codes.{codes_of, codes_in, unless_over, call_codes, Readable}
-use Rattle.std.specs.Prelude.{Result, Ok, Err}
 use Rattle.syntax.specs.declared.scan.Unread.{Unread}
+use Rattle.syntax.specs.declared.sent.Sent.{Sent as Sending}
+use Rattle.syntax.specs.declared.sent.Checks.{Checks}
 use Rattle.syntax.specs.declared.scan.Scanned.{Scanned}
 use Rattle.syntax.specs.declared.scan.RefusedRun.{RefusedRun}
-use Rattle.syntax.proofs.Runs.{past_call}
+use Rattle.syntax.proofs.Runs.{Passed, passed}
 
--- What is left of the codes to store, of so many calls, from call i at an offset on: those of the calls that stand there.
-pub record Left (bytes whole codes : List ℕ) (many at i : ℕ) : Type 0 where
-  pub calls : List Call
-  pub there : CallsAt bytes at calls
-  pub same : whole ≡ sets codes i (codes_of calls)
-  pub count : i + length calls ≡ many
+-- What is left of the codes to store, from call i at an offset on: those of the calls that are sent there.
+pub record Left (bytes whole codes : List ℕ) (at i : ℕ) : Type 0 where
+  pub sents : List Sent
+  pub there : CallsAt bytes at sents
+  pub same : whole ≡ sets codes i (codes_of (all_calls sents))
 
-pub one_more : {bytes whole codes : List ℕ} {many at i : ℕ} → Left bytes whole codes many at i → i < many → at < length bytes
-one_more {bytes} {whole} {codes} {many} {at} {i} l h = go l.there (omega (arith, l.count))
+codes_append : (calls others : List Call) → codes_of (calls ++ others) ≡ codes_of calls ++ codes_of others
+codes_append [] others = refl
+codes_append (call ∷ calls) others = ap (λ (l : List ℕ). code_number call.code ∷ l) (codes_append calls others)
+
+codes_first : (sent : Sent) (others : List Sent) → codes_of (all_calls (sent ∷ others)) ≡ codes_of (calls_of sent) ++ codes_of (all_calls others)
+unfolding all_calls
+codes_first sent others = codes_append (calls_of sent) (all_calls others)
+
+sets_append : (l : List ℕ) (i : ℕ) (ms ns : List ℕ) → sets l i (ms ++ ns) ≡ sets (sets l i ms) (i + length ms) ns
+sets_append l i [] ns = ap (λ (k : ℕ). sets l k ns) (sym (add-zero i))
+sets_append l i (m ∷ ms) ns = sets_append (set l i m) (suc i) ms ns ∙ ap (λ (k : ℕ). sets (sets (set l i m) (suc i) ms) k ns) (suc-add i (length ms) ∙ sym (add-suc i (length ms)))
+
+-- One turn: the codes of the calls that are sent at the offset are stored, and the offset past them is found.
+turn : (bytes whole codes : List ℕ) (at i : ℕ) (told : Sending) (new : List ℕ) → Left bytes whole codes at i → at < length bytes → (q : Passed bytes at told) → codes_of (calls_of q.sent) ≡ new → length new ≡ calls_sent told → Left bytes whole (sets codes i new) told.next (i + calls_sent told)
+turn bytes whole codes at i told new l h q c n = go (first_call l.there h)
   where
-    go : {calls : List Call} → CallsAt bytes at calls → 0 < length calls → at < length bytes
-    go (no_more e) k = absurd (let z : ⊥ = omega arith in z)
-    go (next_call c more) k = omega (arith, c.far, c.inside)
+    go : FirstCall bytes at l.sents → Left bytes whole (sets codes i new) told.next (i + calls_sent told)
+    go f =
+        let both : got f.sent (drop f.next bytes) f.next ≡ got q.sent (drop told.next bytes) told.next = sym f.here.reads ∙ q.here.reads in
+        let here : f.next ≡ told.next = cc in
+        let same : f.sent ≡ q.sent = cc in
+        let first : codes_of (all_calls l.sents) ≡ new ++ codes_of (all_calls f.others) = ap (λ (s : List Sent). codes_of (all_calls s)) f.is ∙ codes_first f.sent f.others ∙ ap (λ (s : Sent). codes_of (calls_of s) ++ codes_of (all_calls f.others)) same ∙ ap (λ (m : List ℕ). m ++ codes_of (all_calls f.others)) c in
+        record { sents = f.others; there = rw (← here) f.more; same = l.same ∙ ap (sets codes i) first ∙ sets_append codes i new (codes_of (all_calls f.others)) ∙ ap (λ (m : ℕ). sets (sets codes i new) (i + m) (codes_of (all_calls f.others))) n }
 
--- One turn: the code of the call at the offset is stored, and the offset past it is found.
-pub turn : (t : Bool) (bytes whole codes : List ℕ) (many at i p : ℕ) → Left bytes whole codes many at i → at < length bytes → Ok p ≡ next_in t (call_at bytes at) → Left bytes whole (set codes i (get_or bytes at 0)) many p (i + 1)
-turn t bytes whole codes many at i p l h e = go (first_call l.there h) (past_call t bytes at p e)
-  where
-    go : FirstCall bytes at l.calls → (call : Call) × (call_at bytes at ≡ got call (drop p bytes) p) × (at + 3 ≤ p) → Left bytes whole (set codes i (get_or bytes at 0)) many p (i + 1)
-    go f q =
-        let both : got f.call (drop f.next bytes) f.next ≡ got q.0 (drop p bytes) p = sym f.here.reads ∙ q.1 in
-        let here : f.next ≡ p = cc in
-        let byte : get_or bytes at 0 ≡ code_number f.call.code = code_is (get_or bytes at 0) f.call.code f.here.code in
-        let first : codes_of l.calls ≡ code_number f.call.code ∷ codes_of f.others = ap codes_of f.is in
-        record { calls = f.others; there = rw (← here) f.more; same = l.same ∙ rw (first, byte, add-one i); count = omega (arith, l.count, ap length f.is) }
+-- By what is told of them: one call with the code that stands there, or so many checks.
+codes_checks : (call : Call) (drafts : List Term) → codes_of (checks_of call drafts) ≡ replicate (length drafts) (code_number c_check)
+unfolding checks_of
+codes_checks call [] = refl
+codes_checks call (ty ∷ tys) = ap (λ (l : List ℕ). code_number c_check ∷ l) (codes_checks call tys)
+
+pub turn_one : (t : Bool) (bytes whole codes : List ℕ) (at i : ℕ) (told : Sending) → Left bytes whole codes at i → at < length bytes → Ok told ≡ sent_in t bytes at → told.checks ≡ None → Left bytes whole (set codes i (get_or bytes at 0)) told.next (i + calls_sent told)
+turn_one t bytes whole codes at i told l h e k =
+    let q = passed t bytes at told e in
+    let one : calls_of q.sent ≡ q.sent.call ∷ [] = q.alone k in
+    turn bytes whole codes at i told (get_or bytes at 0 ∷ []) l h q (ap codes_of one ∙ ap (λ (n : ℕ). n ∷ []) (sym (code_is (get_or bytes at 0) q.sent.call.code q.here.call.code))) (sym (ap length one) ∙ q.many)
+
+pub turn_many : (t : Bool) (bytes whole codes : List ℕ) (at i : ℕ) (told : Sending) (c : Checks) → Left bytes whole codes at i → at < length bytes → Ok told ≡ sent_in t bytes at → told.checks ≡ Some c → Left bytes whole (sets codes i (replicate c.count (code_number c_check))) told.next (i + calls_sent told)
+turn_many t bytes whole codes at i told c l h e k =
+    let q = passed t bytes at told e in
+    let w = q.checks c k in
+    let new : codes_of (calls_of q.sent) ≡ replicate c.count (code_number c_check) = ap codes_of w.0 ∙ codes_checks q.sent.call q.sent.drafts ∙ ap (λ (n : ℕ). replicate n (code_number c_check)) w.1 in
+    turn bytes whole codes at i told (replicate c.count (code_number c_check)) l h q new (length-replicate c.count (code_number c_check) ∙ sym w.1 ∙ sym (many_checks q.sent.call q.sent.drafts) ∙ sym (ap length w.0) ∙ q.many)
 
 -- No turn is refused.
-pub no_fault : (t : Bool) (bytes whole codes : List ℕ) (many at i : ℕ) → Left bytes whole codes many at i → at < length bytes → t ≡ false → (r : Result ℕ Unread) → ((p : ℕ) → r ≡ Ok p → ⊥) → r ≡ next_in t (call_at bytes at) → ⊥
-unfolding next_in next_of
-no_fault true bytes whole codes many at i l h f r never e = let z : ◌≡◌ {A = ℕ} 0 1 = cc in omega arith
-no_fault false bytes whole codes many at i l h f r never e = never _ (e ∙ ap next_of (first_call l.there h).here.reads)
+pub no_fault : (t : Bool) (bytes whole codes : List ℕ) (at i : ℕ) → Left bytes whole codes at i → at < length bytes → t ≡ false → (r : Result Sending Unread) → ((p : Sending) → r ≡ Ok p → ⊥) → r ≡ sent_in t bytes at → ⊥
+unfolding sent_in
+no_fault true bytes whole codes at i l h f r never e = let z : ◌≡◌ {A = ℕ} 0 1 = cc in omega arith
+no_fault false bytes whole codes at i l h f r never e = never _ (e ∙ (first_call l.there h).here.tells)
+
+-- Past the last there is none.
+pub all_stored : (bytes whole codes : List ℕ) (at i : ℕ) → Left bytes whole codes at i → length bytes ≤ at → codes ≡ whole
+unfolding all_calls
+all_stored bytes whole codes at i l h =
+    let none_left : codes_of (all_calls l.sents) ≡ [] = ap (λ (s : List Sent). codes_of (all_calls s)) (last_call l.there h) in
+    sym (l.same ∙ ap (sets codes i) none_left)
+
+-- So many checks are so many calls.
+pub many_sent : (told : Sending) (c : Checks) → told.checks ≡ Some c → calls_sent told ≡ c.count
+unfolding calls_sent
+many_sent told c e = rw e
+
+-- A code more of those that are alike, and none.
+check_on : (codes : List ℕ) (i left code : ℕ) → 0 < left → sets codes i (replicate left code) ≡ sets (set codes i code) (i + 1) (replicate (left - 1) code)
+check_on codes i ℕ.zero code h = absurd (let z : ⊥ = omega arith in z)
+check_on codes i (ℕ.suc n) code h = rw (add-one i, sub-one (suc n))
+
+pub check_turn : (codes : List ℕ) (from i count code : ℕ) → i < count → sets codes (from + i) (replicate (count - i) code) ≡ sets (set codes (from + i) code) (from + (i + 1)) (replicate (count - (i + 1)) code)
+check_turn codes from i count code h =
+    let a : from + i + 1 ≡ from + (i + 1) = omega arith in
+    let b : count - i - 1 ≡ count - (i + 1) = omega arith in
+    check_on codes (from + i) (count - i) code (omega arith) ∙ rw (a, b)
+
+pub no_check : (codes : List ℕ) (i left code : ℕ) → left ≤ 0 → sets codes i (replicate left code) ≡ codes
+no_check codes i ℕ.zero code h = refl
+no_check codes i (ℕ.suc n) code h = absurd (let z : ⊥ = omega arith in z)
 
 -- What a scan that found calls says of the run, and what one that was refused says.
-pub readable : (bytes : List ℕ) (found : Scanned) → Ok found ≡ scanned bytes → (run : Readable bytes) × (length run.calls ≡ found.calls)
+pub readable : (bytes : List ℕ) (found : Scanned) → Ok found ≡ scanned bytes → Readable bytes
 readable bytes found e = long (ltb 65536 (length bytes)) refl e
   where
-    read : (few : length bytes ≤ 65536) (r : Read (ℕ × List Call)) → read_run bytes ≡ r → ltb 65536 (length bytes) ≡ false → Ok found ≡ told r → (run : Readable bytes) × (length run.calls ≡ found.calls)
+    read : (few : length bytes ≤ 65536) (r : Read (ℕ × List Call)) → read_run bytes ≡ r → ltb 65536 (length bytes) ≡ false → Ok found ≡ told r → Readable bytes
     read few (got (limit', calls) rest at) q f e =
-        let same : found ≡ record { limit = limit'; calls = length calls } = unfold told in cc in
-        (record { few = few; calls = calls; all = (run_is bytes q).all; are = unfold unless_over codes_in in rw (f, q) }, sym (ap (λ (x : Scanned). x.calls) same))
+        let R = run_is bytes q in
+        let are : call_codes bytes ≡ codes_of calls = unfold unless_over codes_in in rw (f, q) in
+        record { few = few; sents = R.sents; all = R.all; are = are ∙ ap codes_of R.are }
     read few (bad place) q f e = absurd (unfold told in let z : ◌≡◌ {A = ℕ} 0 1 = cc in omega arith)
 
-    long : (t : Bool) → ltb 65536 (length bytes) ≡ t → Ok found ≡ unless_long t (told (read_run bytes)) → (run : Readable bytes) × (length run.calls ≡ found.calls)
+    long : (t : Bool) → ltb 65536 (length bytes) ≡ t → Ok found ≡ unless_long t (told (read_run bytes)) → Readable bytes
     long true q e = absurd (unfold unless_long in let z : ◌≡◌ {A = ℕ} 0 1 = cc in omega arith)
     long false q e = read (ltb-false 65536 (length bytes) q) (read_run bytes) refl q (unfold unless_long in e)
 
@@ -77,8 +126,3 @@ unreadable bytes refusal e = long (ltb 65536 (length bytes)) e
     long : (t : Bool) → Err refusal ≡ unless_long t (told (read_run bytes)) → unless_over t (codes_in (read_run bytes)) ≡ []
     long true e = refl
     long false e = read (read_run bytes) (unfold unless_long in e)
-
--- An answer that is no run's is a refusal.
-pub not_read : (bytes : List ℕ) (r : Result Scanned RefusedRun) → ((found : Scanned) → r ≡ Ok found → ⊥) → r ≡ scanned bytes → call_codes bytes ≡ []
-not_read bytes (Ok found) never e = absurd (never found refl)
-not_read bytes (Err refusal) never e = unreadable bytes refusal e

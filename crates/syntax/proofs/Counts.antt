@@ -29,7 +29,7 @@ use Rattle.syntax.specs.declared.limits.Unfit.TheVariants.{Refused as Over, Unre
 use Rattle.syntax.proofs.Terms.{call_of, terms_after, T, call_here, terms_here}
 
 -- The answer tells the size.
-nodes_tell : (s : Sized) (n p end : ℕ) → reached n p ≡ counted s end → (s ≡ fits n) × (p ≡ end)
+pub nodes_tell : (s : Sized) (n p end : ℕ) → reached n p ≡ counted s end → (s ≡ fits n) × (p ≡ end)
 unfolding counted
 nodes_tell (fits m) n p end e =
     let same : ◌≡◌ {A = Counted} (record { nodes = n; next = p }) (record { nodes = m; next = end }) = cc in

@@ -3,8 +3,10 @@ mod Bytes
 mod Over
 mod Stack
 mod Terms
+mod Sends
 mod Runs
 mod Measure
 mod Depths
 mod Counts
+mod Drafts
 mod Coded

@@ -1,6 +1,6 @@
 -- The codes of a run's calls, as bytes.
 use Rattle.std.specs.Prelude.{ℕ, ◌≤◌, ◌≡◌, List, [], ◌∷◌, Bool, true, false, ltb, length}
-use Rattle.walk.specs.Reader.{Read, got, bad, Call, read_run}
+use Rattle.walk.specs.Reader.{Read, got, bad, Call, Sent, all_calls, read_run}
 use Rattle.syntax.specs.Told.{code_number}
 use Rattle.syntax.specs.Calls.{CallsAt}
 
@@ -20,9 +20,9 @@ unless_over false codes = codes
 abbrev pub call_codes : List ℕ → List ℕ
 call_codes bytes = unless_over (ltb 65536 (length bytes)) (codes_in (read_run bytes))
 
--- What a run that was read is: these calls, from the third byte on.
+-- What a run that was read is: these are sent, from the third byte on.
 pub record Readable (bytes : List ℕ) : Type 0 where
   pub few : length bytes ≤ 65536
-  pub calls : List Call
-  pub all : CallsAt bytes 2 calls
-  pub are : call_codes bytes ≡ codes_of calls
+  pub sents : List Sent
+  pub all : CallsAt bytes 2 sents
+  pub are : call_codes bytes ≡ codes_of (all_calls sents)

@@ -2,7 +2,7 @@
 use Rattle.std.specs.Prelude.{ℕ, ◌+◌, ◌*◌, ◌≤◌, ◌≡◌, refl, List, [], ◌∷◌, Bool, true, false, ◌&&◌, leb, length, get_or, drop}
 use Rattle.std.proofs.Common.{sym, ap, ◌∙◌, arith, length-drop, drop-drop}
 use Rattle.std.proofs.Math.Option.{Option, none, some}
-use Rattle.walk.specs.Reader.{Read, got, bad, Reader, read_on, ◌>>=◌, ok, byte, meant, one_of, k_u, k_v, k_nat, k_zero, k_pi, k_lam, k_app, k_path, k_plam, k_papp, k_sigma, k_pair, k_fst, k_snd, k_0, k_1, k_dim, k_neg, k_meet, k_join, kinds, ikinds, codes, terms_of, read_interval, read_term, read_terms, read_head, Call, read_call, read_calls, read_limit, read_run}
+use Rattle.walk.specs.Reader.{Read, got, bad, Reader, read_on, ◌>>=◌, ok, byte, meant, one_of, k_u, k_v, k_nat, k_zero, k_pi, k_lam, k_app, k_path, k_plam, k_papp, k_sigma, k_pair, k_fst, k_snd, k_0, k_1, k_dim, k_neg, k_meet, k_join, kinds, ikinds, codes, terms_of, lists_types, read_interval, read_term, read_terms, read_head, Call, read_call, Sent, all_calls, read_drafts, read_sent, read_calls, read_limit, read_run}
 
 -- The rest starts at the end, which lies at least n bytes on and inside the run.
 pub record Stops (bytes : List ℕ) (start n : ℕ) (rest : List ℕ) (end : ℕ) : Type 0 where
@@ -125,6 +125,15 @@ pub goes_call : (f : ℕ) → Goes 3 (read_call f)
 unfolding read_call
 goes_call f = goes_then goes_head (λ h. goes_then (goes_terms f h.size) (λ types. goes_then (goes_terms f (terms_of h.code)) (λ terms. goes_ok _)))
 
+goes_drafts : (f : ℕ) (b : Bool) → Goes 0 (read_drafts f b)
+unfolding read_drafts
+goes_drafts f true = goes_part goes_byte (λ n. goes_terms f n)
+goes_drafts f false = goes_ok []
+
+pub goes_sent : (f : ℕ) → Goes 3 (read_sent f)
+unfolding read_sent
+goes_sent f = goes_then (goes_call f) (λ call. goes_then (goes_drafts f (lists_types call.code)) (λ drafts. goes_ok _))
+
 goes_calls : (f m : ℕ) → Goes 0 (read_calls f m)
 unfolding read_calls ◌>>=◌ ok
 goes_calls f ℕ.zero = record { on = λ bytes at. go bytes at (drop at bytes) refl }
@@ -132,9 +141,9 @@ goes_calls f ℕ.zero = record { on = λ bytes at. go bytes at (drop at bytes) r
     go : (bytes : List ℕ) (at : ℕ) (bs : List ℕ) → drop at bytes ≡ bs → Ends bytes at 0 (read_calls f ℕ.zero bs at)
     go bytes at [] e = record { left = sym e; far = omega arith; inside = λ h. h }
     go bytes at (b ∷ bs) e = λ h. h
-goes_calls f (ℕ.suc m) = record { on = λ bytes at. go bytes at (drop at bytes) refl ((goes_less (omega arith) (goes_then (goes_call f) (λ call. goes_then (goes_calls f m) (λ calls. goes_ok (call ∷ calls))))).on bytes at) }
+goes_calls f (ℕ.suc m) = record { on = λ bytes at. go bytes at (drop at bytes) refl ((goes_less (omega arith) (goes_then (goes_sent f) (λ sent. goes_then (goes_calls f m) (λ others. goes_ok (sent ∷ others))))).on bytes at) }
   where
-    go : (bytes : List ℕ) (at : ℕ) (bs : List ℕ) → drop at bytes ≡ bs → Ends {A = List Call} bytes at 0 ((read_call f >>= λ call. read_calls f m >>= λ calls. ok (call ∷ calls)) (drop at bytes) at) → Ends bytes at 0 (read_calls f (ℕ.suc m) bs at)
+    go : (bytes : List ℕ) (at : ℕ) (bs : List ℕ) → drop at bytes ≡ bs → Ends {A = List Sent} bytes at 0 ((read_sent f >>= λ sent. read_calls f m >>= λ others. ok (sent ∷ others)) (drop at bytes) at) → Ends bytes at 0 (read_calls f (ℕ.suc m) bs at)
     go bytes at [] e h = record { left = sym e; far = omega arith; inside = λ h. h }
     go bytes at (b ∷ bs) e h = rw e at h
 
@@ -154,4 +163,4 @@ goes_limit = record { on = λ bytes at. go bytes at (drop at bytes) refl }
 -- The place of refusal 3 lies in the run or at its end.
 pub run_fault : (bytes : List ℕ) {place : ℕ} → read_run bytes ≡ bad place → place ≤ length bytes
 unfolding read_run
-run_fault bytes e = faults {A = ℕ × List Call} (goes_then goes_limit (λ limit. goes_then (goes_calls (length bytes) (length bytes)) (λ calls. goes_ok (limit, calls)))) bytes 0 e (omega arith)
+run_fault bytes e = faults {A = ℕ × List Call} (goes_then goes_limit (λ limit. goes_then (goes_calls (length bytes) (length bytes)) (λ sents. goes_ok (limit, all_calls sents)))) bytes 0 e (omega arith)

@@ -4,13 +4,13 @@ use Rattle.std.proofs.Math.Option.{Option, none, some}
 use Rattle.ast.specs.declared.refusals.Refusal.{Refusal}
 use Rattle.ast.specs.declared.refusals.Refusal.TheVariants as refusal
 use Rattle.walk.specs.Syntax.{Term}
-use Rattle.walk.specs.Reader.{Read, got, bad, Code, c_context, c_universe, c_infer, c_check, c_normalise, c_equal, terms_of, Head, Call, read_term, read_terms, read_head, read_call, read_run}
-use Rattle.walk.specs.Limits.{Sized, fits, scope_over, size_over, index_over, size_call}
+use Rattle.walk.specs.Reader.{Read, got, bad, Code, c_context, c_universe, c_infer, c_check, c_normalise, c_equal, c_many, terms_of, Head, Call, check_of, Sent, all_calls, read_term, read_terms, read_head, read_call, read_run}
+use Rattle.walk.specs.Limits.{Sized, fits, scope_over, size_over, index_over, size_term, size_call}
 use Rattle.syntax.specs.declared.scan.Fault.{Fault}
 use Rattle.syntax.specs.declared.scan.Unread.{Unread}
 use Rattle.syntax.specs.declared.scan.Unread.TheVariants.{Bad, Short}
 use Rattle.syntax.specs.declared.calls.Code.{Code as CallCode}
-use Rattle.syntax.specs.declared.calls.Code.TheVariants.{Context, Universe, Infer, Check, Normalise, Equal}
+use Rattle.syntax.specs.declared.calls.Code.TheVariants.{Context, Universe, Infer, Check, Normalise, Equal, Many}
 use Rattle.syntax.specs.declared.scan.CallHead.{CallHead}
 use Rattle.syntax.specs.declared.scan.Scanned.{Scanned}
 use Rattle.syntax.specs.declared.scan.RefusedRun.{RefusedRun}
@@ -64,9 +64,10 @@ code_number c_infer = 2
 code_number c_check = 3
 code_number c_normalise = 4
 code_number c_equal = 5
+code_number c_many = 6
 
 abbrev pub highest_code : ℕ
-highest_code = 5
+highest_code = 6
 
 -- end of numbers of codes
 
@@ -79,6 +80,7 @@ code_told c_infer = Infer
 code_told c_check = Check
 code_told c_normalise = Normalise
 code_told c_equal = Equal
+code_told c_many = Many
 
 -- end of codes told
 
@@ -90,6 +92,7 @@ code_of Infer = c_infer
 code_of Check = c_check
 code_of Normalise = c_normalise
 code_of Equal = c_equal
+code_of Many = c_many
 
 -- end of codes of the program
 
@@ -133,8 +136,8 @@ refused_unread (Bad place) = refused_at refusal.Unread place
 refused_unread Short = refused_at refusal.Bytes 0
 
 -- The calls that are read, after so many.
-unfoldable pub counted : ℕ → ℕ → Read (List Call) → Result Scanned RefusedRun
-counted limit n (got calls rest at) = calls_read limit (n + length calls)
+unfoldable pub counted : ℕ → ℕ → Read (List Sent) → Result Scanned RefusedRun
+counted limit n (got sents rest at) = calls_read limit (n + length (all_calls sents))
 counted limit n (bad place) = Err (refused_at refusal.Unread place)
 
 unfoldable pub told : Read (ℕ × List Call) → Result Scanned RefusedRun
@@ -166,3 +169,25 @@ size_of (bad place) = Err (NotRead (Bad place))
 unfoldable pub size_in : Bool → Read Call → Result Fitting Unfit
 size_in true r = Err (NotRead Short)
 size_in false r = size_of r
+
+-- Of a call that has its term alone, the check of that at a type that stands elsewhere: the same, with the offset past the type.
+
+unfoldable pub size_draft : Read Call → Read Term → Result Fitting Unfit
+size_draft (got call rest next) (got ty rest' end) = sized (size_call (check_of call ty)) call end
+size_draft (got call rest next) (bad place) = Err (NotRead (Bad place))
+size_draft (bad place) r = Err (NotRead (Bad place))
+
+unfoldable pub size_draft_in : Bool → Read Call → Read Term → Result Fitting Unfit
+size_draft_in true c r = Err (NotRead Short)
+size_draft_in false c r = size_draft c r
+
+-- Such a type, after so many nodes of a call with this head.
+unfoldable pub sized_as : Sized → CallHead → ℕ → Result Fitting Unfit
+sized_as (fits nodes) head next = fits_to head nodes next
+sized_as scope_over head next = Err (Over refusal.Scope next)
+sized_as size_over head next = Err (Over refusal.Size next)
+sized_as index_over head next = Err (Over refusal.Index next)
+
+unfoldable pub size_type : CallHead → ℕ → Read Term → Result Fitting Unfit
+size_type head before (got ty rest end) = sized_as (size_term ty 0 before) head end
+size_type head before (bad place) = Err (NotRead (Bad place))

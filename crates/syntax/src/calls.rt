@@ -2,7 +2,7 @@
 // Written by tools/written.py from tools/language.py; `python3 tools/written.py` makes it again.
 ghost use Rattle.std.specs.Prelude.{◌≡◌, get_or};
 ghost use Rattle.std.proofs.Math.Option.{none};
-ghost use Rattle.walk.specs.Reader.{codes, terms_of};
+ghost use Rattle.walk.specs.Reader.{codes, terms_of, lists_types};
 ghost use Rattle.syntax.specs.Told.{code_number, code_of, code_in};
 
 #[derive(Clone, Copy, Debug, PartialEq, Eq)]
@@ -13,6 +13,7 @@ pub enum Code {
     Check = 3,
     Normalise = 4,
     Equal = 5,
+    Many = 6,
 }
 
 impl Code {
@@ -28,6 +29,7 @@ impl Code {
             3 => Some(Code::Check),
             4 => Some(Code::Normalise),
             5 => Some(Code::Equal),
+            6 => Some(Code::Many),
             _ => None,
         }
     }
@@ -51,6 +53,22 @@ impl Code {
             Code::Check => 2,
             Code::Normalise => 2,
             Code::Equal => 3,
+            Code::Many => 1,
+        }
+    }
+
+    // Whether a count and that many types come after them.
+    pub fn lists_types(self) -> bool
+        ensures { result ≡ lists_types (code_of self) }
+    {
+        match self {
+            Code::Context => false,
+            Code::Universe => false,
+            Code::Infer => false,
+            Code::Check => false,
+            Code::Normalise => false,
+            Code::Equal => false,
+            Code::Many => true,
         }
     }
 }

@@ -1,7 +1,7 @@
 // The limits of a call, refusals 5 to 7, in one prefix walk of its bytes: syntax.rs.
 ghost use Rattle.std.specs.Prelude.{◌≡◌, ◌||◌, ◌+◌, ◌*◌, ◌≤◌, ltb, leb, length};
 ghost use Rattle.walk.specs.Limits.{size_term as walk_size, size_terms as walk_sizes, size_call as walk_call};
-ghost use Rattle.syntax.specs.Told.{term_at, terms_at, call_at, HeadAt, short, size_of, size_in, unread_at};
+ghost use Rattle.syntax.specs.Told.{term_at, terms_at, call_at, HeadAt, short, size_of, size_in, size_type, size_draft, size_draft_in, unread_at};
 ghost use Rattle.syntax.specs.Parts.{Counts};
 ghost use Rattle.syntax.specs.declared.limits.Unfit.TheVariants.{Unread as NotRead};
 
@@ -141,7 +141,8 @@ impl Lent<'_> {
     // be found.
     #[tactic(auto, unfolding(crate::specs::Told::size_in), using(crate::proofs::Counts::size_none, crate::proofs::Counts::size_bad))]
     fn fitting(&mut self, from: usize) -> Result<Fitting, Unfit>
-        ensures { result ≡ size_of (call_at self.old.bytes.now from) }
+        ensures same { self.new.bytes ≡ self.old.bytes }
+        ensures value { result ≡ size_of (call_at self.old.bytes.now from) }
     {
         let head = head_at(self.bytes, from)?;
         match self.call_size(from, head) {
@@ -157,6 +158,38 @@ impl Lent<'_> {
             }
         }
     }
+
+    // Whether the type at an offset is, after so many nodes of a call with this head. As above, its end is looked for where it is refused.
+    fn type_fitting(&mut self, ty: usize, head: CallHead, nodes: usize) -> Result<Fitting, Unfit>
+        ensures { result ≡ size_type head nodes (term_at self.old.bytes.now ty) }
+    {
+        match self.term_size(ty, nodes) {
+            Ok(counted) => {
+                let Counted { nodes, next } = counted;
+                Ok(Fitting { head, nodes, next })
+            }
+            Err(Uncounted::Bad(place)) => Err(Unfit::Unread(Unread::Bad(place))),
+            Err(Uncounted::Refused(refusal)) => {
+                let next = self.term(ty)?;
+                Err(Unfit::Refused(refusal, next))
+            }
+        }
+    }
+
+    // Whether the check of the call at an offset, which has its term alone, at the type at another is: their nodes are counted on.
+    #[tactic(auto, using(crate::proofs::Drafts::draft_fits, crate::proofs::Drafts::draft_refused, crate::proofs::Drafts::draft_untyped, crate::proofs::Drafts::draft_unread))]
+    fn draft_fitting(&mut self, from: usize, ty: usize) -> Result<Fitting, Unfit>
+        ensures { result ≡ size_draft (call_at self.old.bytes.now from) (term_at self.old.bytes.now ty) }
+    {
+        match self.fitting(from) {
+            Ok(call) => self.type_fitting(ty, call.head, call.nodes),
+            Err(Unfit::Unread(unread)) => Err(Unfit::Unread(unread)),
+            Err(Unfit::Refused(refusal, _)) => {
+                let next = self.term(ty)?;
+                Err(Unfit::Refused(refusal, next))
+            }
+        }
+    }
 }
 
 // The call at an offset.
@@ -165,4 +198,12 @@ pub fn size_call(s: &[u8], from: usize, stack: &mut [u8]) -> Result<Fitting, Unf
     ensures { result ≡ size_in (short stack.old s.now) (call_at s.now from) }
 {
     Lent::new(s, stack)?.fitting(from)
+}
+
+// The check of the call at an offset, which has its term alone, at the type at another.
+#[tactic(auto, unfolding(crate::specs::Told::size_draft_in))]
+pub fn size_draft(s: &[u8], from: usize, ty: usize, stack: &mut [u8]) -> Result<Fitting, Unfit>
+    ensures { result ≡ size_draft_in (short stack.old s.now) (call_at s.now from) (term_at s.now ty) }
+{
+    Lent::new(s, stack)?.draft_fitting(from, ty)
 }

@@ -6,9 +6,10 @@ ghost use Rattle.walk.specs.Reader.{codes, byte, read_head as walk_head, read_li
 ghost use Rattle.syntax.specs.Told.{term_at, terms_at, call_at, short, next_of, next_in, head_of, terms_in, many_terms, limit_of, counted, scanned, unread_at, refused_unread, value_of};
 
 use super::calls::Code;
-use super::cursor::{head_at, limit_of, past_at};
+use super::cursor::{head_at, limit_of};
 use super::lent::{Lent, STACK};
 use super::parts::{Part, push};
+use super::sent::sent_at;
 use ast::refusals::Refusal;
 
 // Where a run cannot be read: the leftmost byte that may not stand there, or the run's end.
@@ -85,7 +86,7 @@ impl From<Unread> for RefusedRun {
 
 impl Lent<'_> {
     // One term from an offset on. A word of the stack is a part.
-    fn term(&mut self, from: usize) -> Result<usize, Unread>
+    pub fn term(&mut self, from: usize) -> Result<usize, Unread>
         ensures same { self.new.bytes ≡ self.old.bytes }
         ensures value { result ≡ next_of (term_at self.old.bytes.now from) }
     {
@@ -111,7 +112,7 @@ impl Lent<'_> {
 
     // So many terms, one after the other.
     #[tactic(auto, using(crate::proofs::Terms::terms_on, crate::proofs::Terms::terms_done))]
-    fn terms(&mut self, from: usize, count: usize) -> Result<usize, Unread>
+    pub fn terms(&mut self, from: usize, count: usize) -> Result<usize, Unread>
         ensures same { self.new.bytes ≡ self.old.bytes }
         ensures value { result ≡ next_of (terms_at count self.old.bytes.now from) }
     {
@@ -161,7 +162,7 @@ pub(crate) fn terms_after(head: CallHead) -> usize
 
 // The byte at an offset.
 #[tactic(auto, using(crate::proofs::Bytes::byte_here, crate::proofs::Bytes::no_byte))]
-fn byte_at(s: &[u8], at: usize) -> Result<u8, Fault>
+pub(crate) fn byte_at(s: &[u8], at: usize) -> Result<u8, Fault>
     ensures { result ≡ value_of (byte (drop at s.now) at) }
 {
     if s.len() <= at {
@@ -208,7 +209,7 @@ pub fn read_limit(s: &[u8]) -> Result<usize, Fault>
 }
 
 // The calls after the nesting limit.
-#[tactic(auto, using(crate::proofs::Runs::past_call, crate::proofs::Runs::calls_bad, crate::proofs::Runs::calls_done, crate::proofs::Runs::room))]
+#[tactic(auto, using(crate::proofs::Runs::passed_far, crate::proofs::Runs::calls_bad, crate::proofs::Runs::calls_done, crate::proofs::Runs::room))]
 fn count_calls(s: &[u8], limit: usize) -> Result<Scanned, RefusedRun>
     requires { length s.now ≤ 65536 }
     ensures { result ≡ counted limit 0 (read_calls (length s.now) (length s.now) (drop 2 s.now) 2) }
@@ -217,8 +218,9 @@ fn count_calls(s: &[u8], limit: usize) -> Result<Scanned, RefusedRun>
     let mut at: usize = 2;
     let mut calls: usize = 0;
     while at < s.len() {
-        at = past_at(s, at, &mut stack)?;
-        calls = calls + 1;
+        let sent = sent_at(s, at, &mut stack)?;
+        calls = calls + sent.calls();
+        at = sent.next;
     }
     Ok(Scanned { limit, calls })
 }

@@ -66,7 +66,7 @@ abbrev pub tells : List Row → ℕ → List Shown → Seen
 tells rows cells answers = record { number = 0; place = 0; calls = length answers; rows = length rows; cells = cells; repeats = 0; answers = answers; table = some rows }
 
 -- a run that is refused: number and place
-abbrev refuses : ℕ → ℕ → Seen
+abbrev pub refuses : ℕ → ℕ → Seen
 refuses number place = record { number = number; place = place; calls = 0; rows = 0; cells = 0; repeats = 0; answers = []; table = none }
 
 abbrev pub row : ℕ → List ℕ → Judgment → Row
@@ -167,7 +167,7 @@ table =
     listed "limit 4,096" (0 ∷ 16 ∷ []) (gives 0 0 0 []) ∷
     listed "limit 4,097" (1 ∷ 16 ∷ []) (refuses 3 0) ∷
     listed "the leftmost place" (0 ∷ 0 ∷ 9 ∷ []) (refuses 3 0) ∷
-    listed "no code" (limit_100 ++ 6 ∷ []) (refuses 3 2) ∷
+    listed "no code" (limit_100 ++ 7 ∷ []) (refuses 3 2) ∷
     listed "no kind" (limit_100 ++ 3 ∷ 0 ∷ 0 ∷ 4 ∷ 16 ∷ []) (refuses 3 6) ∷
     listed "a run that ends early" (limit_100 ++ 3 ∷ 0 ∷ 0 ∷ 4 ∷ []) (refuses 3 6) ∷
     in_slices "no row fits" 23 64 0 limit_100 (refuses 1 0) ∷

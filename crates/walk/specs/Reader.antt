@@ -1,5 +1,5 @@
 -- The bytes of a run, read: a nesting limit and calls, or the leftmost place of refusal 3.
-use Rattle.std.specs.Prelude.{ℕ, suc, ◌+◌, ◌*◌, List, [], ◌∷◌, ◌++◌, true, false, ◌&&◌, leb, length, get_or, replicate}
+use Rattle.std.specs.Prelude.{ℕ, suc, ◌+◌, ◌*◌, List, [], ◌∷◌, ◌++◌, Bool, true, false, ◌&&◌, leb, length, get_or, replicate}
 use Rattle.std.proofs.Math.Option.{Option, none, some}
 use Rattle.walk.specs.Syntax.{Interval, I0, I1, Dim, Neg, Meet, Join, Term, Universe, Var, Nat, Zero, Pi, Lam, App, Path, PathLam, PathApp, Sigma, Pair, Fst, Snd}
 
@@ -56,11 +56,11 @@ ikinds = replicate 16 none ++ some k_0 ∷ some k_1 ∷ some k_dim ∷ some k_ne
 -- The codes of calls, with the number of terms that follow each.
 -- written by tools/written.py: calls
 pub data Code : Type 0 where
-  c_context c_universe c_infer c_check c_normalise c_equal : Code
+  c_context c_universe c_infer c_check c_normalise c_equal c_many : Code
   deriving Discrete as CodeDiscrete
 
 abbrev pub codes : List (Option Code)
-codes = some c_context ∷ some c_universe ∷ some c_infer ∷ some c_check ∷ some c_normalise ∷ some c_equal ∷ []
+codes = some c_context ∷ some c_universe ∷ some c_infer ∷ some c_check ∷ some c_normalise ∷ some c_equal ∷ some c_many ∷ []
 
 abbrev pub terms_of : Code → ℕ
 terms_of c_context = 0
@@ -69,6 +69,17 @@ terms_of c_infer = 1
 terms_of c_check = 2
 terms_of c_normalise = 2
 terms_of c_equal = 3
+terms_of c_many = 1
+
+-- Whether a count and that many types come after them.
+abbrev pub lists_types : Code → Bool
+lists_types c_context = false
+lists_types c_universe = false
+lists_types c_infer = false
+lists_types c_check = false
+lists_types c_normalise = false
+lists_types c_equal = false
+lists_types c_many = true
 
 -- end of calls
 
@@ -139,12 +150,45 @@ read_call f = do
   terms ← read_terms f (terms_of head.code)
   ok (record { code = head.code; dims = head.dims; types = types; terms = terms })
 
--- Calls follow until the end; the second argument bounds their number, as the first bounds the depth.
-unfoldable pub read_calls : ℕ → ℕ → Reader (List Call)
+-- What is sent with one code: a call, and the types that code 6 has after it, which are read whatever their count is. Other codes have none.
+pub record Sent : Type 0 where
+  pub call : Call
+  pub drafts : List Term
+
+unfoldable pub read_drafts : ℕ → Bool → Reader (List Term)
+read_drafts f true = byte >>= λ n. read_terms f n
+read_drafts f false = ok []
+
+unfoldable pub read_sent : ℕ → Reader Sent
+read_sent f = do
+  call ← read_call f
+  drafts ← read_drafts f (lists_types call.code)
+  ok (record { call = call; drafts = drafts })
+
+-- A call with many types is a check for each, written out in order.
+abbrev pub check_of : Call → Term → Call
+check_of call ty = record { code = c_check; dims = call.dims; types = call.types; terms = call.terms ++ ty ∷ [] }
+
+unfoldable pub checks_of : Call → List Term → List Call
+checks_of call [] = []
+checks_of call (ty ∷ tys) = check_of call ty ∷ checks_of call tys
+
+-- The calls that are sent with one code. One of code 6 that has no type, or more than 16, is one call, of code 6: it is refused (Run).
+unfoldable pub calls_of : Sent → List Call
+calls_of sent =
+    let n = length sent.drafts in
+    elim (leb 1 n && leb n 16) [ true ↦ checks_of sent.call sent.drafts | false ↦ sent.call ∷ [] ]
+
+unfoldable pub all_calls : List Sent → List Call
+all_calls [] = []
+all_calls (sent ∷ others) = calls_of sent ++ all_calls others
+
+-- They follow until the end; the second argument bounds their number, as the first bounds the depth.
+unfoldable pub read_calls : ℕ → ℕ → Reader (List Sent)
 read_calls f ℕ.zero [] at = got [] [] at
 read_calls f ℕ.zero (b ∷ bs) at = bad at
 read_calls f (ℕ.suc m) [] at = got [] [] at
-read_calls f (ℕ.suc m) (b ∷ bs) at = read_on (read_call f (b ∷ bs) at) (λ call bs' at'. read_on (read_calls f m bs' at') (λ calls bs'' at''. got (call ∷ calls) bs'' at''))
+read_calls f (ℕ.suc m) (b ∷ bs) at = read_on (read_sent f (b ∷ bs) at) (λ sent bs' at'. read_on (read_calls f m bs' at') (λ others bs'' at''. got (sent ∷ others) bs'' at''))
 
 -- The nesting limit, low byte first, 1 to 4,096; then the calls.
 unfoldable pub read_limit : Reader ℕ
@@ -154,5 +198,6 @@ read_limit (a ∷ b ∷ bs) at =
     let limit = a + 256 * b in
     elim (leb 1 limit && leb limit 4096) [ true ↦ got limit bs (at + 2) | false ↦ bad at ]
 
+-- A run: its limit, and its calls written out.
 unfoldable pub read_run : List ℕ → Read (ℕ × List Call)
-read_run bytes = (read_limit >>= λ limit. read_calls (length bytes) (length bytes) >>= λ calls. ok (limit, calls)) bytes 0
+read_run bytes = (read_limit >>= λ limit. read_calls (length bytes) (length bytes) >>= λ sents. ok (limit, all_calls sents)) bytes 0

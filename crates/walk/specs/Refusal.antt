@@ -95,3 +95,9 @@ no_sigma = 21
 -- the annotation of a pair is not written as a sigma
 abbrev pub annotation : ℕ
 annotation = 22
+
+-- of a call with many types, before 5
+
+-- the count of its types is 0 or above 16
+abbrev pub count : ℕ
+count = 23

@@ -1,11 +1,11 @@
 -- A run: its bytes and the lengths of the three slices in, its own answer, the answers of its calls and the last state out.
-use Rattle.std.specs.Prelude.{ℕ, ◌+◌, ◌*◌, ◌/◌, min, List, [], ◌∷◌, true, false, ◌||◌, ltb, length, get_or}
+use Rattle.std.specs.Prelude.{ℕ, ◌+◌, ◌*◌, ◌/◌, min, List, [], ◌∷◌, Bool, true, false, ◌||◌, ltb, length, get_or}
 use Rattle.std.proofs.Math.Decide.{ℕ_discrete}
 use Rattle.walk.specs.Syntax.{Term, Nat, Context, Nil, Cons}
 use Rattle.walk.specs.Refusal as Refusal
 use Rattle.walk.specs.State.{State, Outcome, done, refused, with_deepest}
 use Rattle.walk.specs.Walk.{Callees, callees}
-use Rattle.walk.specs.Reader.{Read, got, bad, Code, CodeDiscrete, c_context, c_universe, c_infer, c_check, c_normalise, c_equal, Call, read_run}
+use Rattle.walk.specs.Reader.{Read, got, bad, Code, CodeDiscrete, c_context, c_universe, c_infer, c_check, c_normalise, c_equal, c_many, lists_types, Call, read_run}
 use Rattle.walk.specs.Limits.{Sized, fits, scope_over, size_over, index_over, size_call}
 
 -- the answer of a call
@@ -38,7 +38,7 @@ scope_of g (a ∷ as') = scope_of (Cons a g) as'
 abbrev pub nth : List Term → ℕ → Term
 nth ts n = get_or ts n Nat
 
--- Each code enters its reference function.
+-- Each code enters its reference function; one call with many types is never walked (`play`).
 unfoldable pub walk : Callees → Code → ℕ → Context → List Term → State → Answer × State
 walk c c_context d g ts s = answered (λ row. row) (λ row. no_result) (c.ctx d g s)
 walk c c_universe d g ts s = answered (λ out. out.1) (λ out. a_level out.0) (c.universe d g (nth ts 0) s)
@@ -46,6 +46,7 @@ walk c c_infer d g ts s = answered (λ out. out.1) (λ out. a_term out.0) (c.inf
 walk c c_check d g ts s = answered (λ row. row) (λ row. no_result) (c.check d g (nth ts 0) (nth ts 1) s)
 walk c c_normalise d g ts s = answered (λ out. out.1) (λ out. a_term out.0) (c.normalize d g (nth ts 0) (nth ts 1) s)
 walk c c_equal d g ts s = answered (λ row. row) (λ row. no_result) (c.equal d g (nth ts 0) (nth ts 1) (nth ts 2) s)
+walk c c_many d g ts s = (refusal Refusal.count 0, s)
 
 -- Under 5, 6 and 7 nothing is walked.
 unfoldable pub play_sized : Sized → Call → State → Answer × State
@@ -54,8 +55,13 @@ play_sized size_over call s = (refusal Refusal.size 0, s)
 play_sized index_over call s = (refusal Refusal.index 0, s)
 play_sized (fits n) call s = walk (callees s.limit) call.code call.dims (scope_of Nil call.types) call.terms (with_deepest 0 s)
 
+-- A call of code 6 that is not written out as checks has a wrong count: 23, before 5.
+unfoldable pub play_counted : Bool → Call → State → Answer × State
+play_counted true call s = (refusal Refusal.count 0, s)
+play_counted false call s = play_sized (size_call call) call s
+
 unfoldable pub play : Call → State → Answer × State
-play call s = play_sized (size_call call) call s
+play call s = play_counted (lists_types call.code) call s
 
 -- Each call gets what the one before left, also where that was refused.
 unfoldable pub play_all : List Call → State → List Answer × State

@@ -33,6 +33,7 @@ compare growth KIND [--times N]   times of the program on the first 1/64, 1/32, 
 compare play SIDE KIND TIMES      one process of these: program, source or counted
     --full        every run in 50,000 rows, at the highest nesting limit
     --pairs       runs with pair types
+    --many        runs with pair types, and calls with many types
     --work STEPS  gives a run up where the oracle takes more (10,000,000)
     --threads N   (2)
     --cuts N      each run cut after each of its first N calls too (0)
@@ -174,6 +175,7 @@ fn asked(words: &[&str]) -> Option<Asked> {
         match word {
             "--full" => asked.full = true,
             "--pairs" => asked.terms = Terms::Pairs,
+            "--many" => asked.terms = Terms::Many,
             "--work" => asked.work = words.next()?.parse().ok()?,
             "--threads" => asked.threads = words.next()?.parse().ok()?,
             "--cuts" => asked.cuts = words.next()?.parse().ok()?,

@@ -1,7 +1,7 @@
 //! A smaller run that still shows a difference: calls, types, parts of terms and
 //! numbers are dropped for as long as it does.
 use generator::Case;
-use oracle::language::{kind_of, Kind, Sort, CALLS};
+use oracle::language::{kind_of, Kind, Sort, CALLS, MANY};
 
 /// How often a run may be tried.
 const TRIES: usize = 20_000;
@@ -74,11 +74,13 @@ fn with(bytes: &[u8], at: usize, byte: u8) -> Vec<u8> {
     replaced(bytes, at, at + 1, &[byte])
 }
 
-/// Where a call starts and ends, and where its types and terms do.
+/// Where a call starts and ends, where its types and terms do, and where the count of
+/// its many types stands, with the place of the first among the nodes.
 struct Span {
     start: usize,
     end: usize,
     context: usize,
+    count: Option<(usize, usize)>,
     nodes: Vec<Node>,
 }
 
@@ -106,7 +108,17 @@ fn read(bytes: &[u8]) -> Option<Vec<Span>> {
             nodes.push(Node { start: at, interval: false });
             at = end(bytes, at, false)?;
         }
-        out.push(Span { start, end: at, context, nodes });
+        let mut count = None;
+        if bytes[start] == MANY {
+            count = Some((at, nodes.len()));
+            let many = *bytes.get(at)?;
+            at += 1;
+            for _ in 0..many {
+                nodes.push(Node { start: at, interval: false });
+                at = end(bytes, at, false)?;
+            }
+        }
+        out.push(Span { start, end: at, context, count, nodes });
     }
     Some(out)
 }
@@ -154,11 +166,17 @@ fn by_form(bytes: &[u8], calls: &[Span]) -> Vec<Vec<u8>> {
         return out;
     }
     for call in calls {
-        for node in &call.nodes[..call.context] {
-            let to = end(bytes, node.start, false).unwrap();
-            let mut fewer = replaced(bytes, node.start, to, &[]);
-            fewer[call.start + 2] -= 1;
-            out.push(fewer);
+        let mut fewer = |nodes: &[Node], count: usize| {
+            for node in nodes {
+                let to = end(bytes, node.start, false).unwrap();
+                let mut fewer = replaced(bytes, node.start, to, &[]);
+                fewer[count] -= 1;
+                out.push(fewer);
+            }
+        };
+        fewer(&call.nodes[..call.context], call.start + 2);
+        if let Some((count, first)) = call.count {
+            fewer(&call.nodes[first..], count);
         }
         for node in &call.nodes {
             parts(bytes, *node, &mut out);

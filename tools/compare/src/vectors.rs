@@ -40,10 +40,11 @@ struct Vector {
 /// Writes the two files, and says what the runs meet.
 pub fn write(seed: u64, folder: &Path) -> Result<String> {
     let mut sides = Sides::new(10_000_000, 0);
-    let mut chosen = by_hand(&mut sides, Terms::Plain);
-    by_chance(&mut sides, Terms::Plain, seed, &mut chosen);
-    chosen.append(&mut by_hand(&mut sides, Terms::Pairs));
-    by_chance(&mut sides, Terms::Pairs, seed, &mut chosen);
+    let mut chosen = Vec::new();
+    for terms in [Terms::Plain, Terms::Pairs, Terms::Many] {
+        chosen.append(&mut by_hand(&mut sides, terms));
+        by_chance(&mut sides, terms, seed, &mut chosen);
+    }
     let mut tally = Tally::default();
     let mut file = Vec::new();
     let mut said = String::new();
@@ -102,9 +103,13 @@ fn vector(sides: &mut Sides, name: String, mut case: Case) -> Option<Vector> {
     Some(Vector { name, case, ran, text })
 }
 
-/// The name of a stored run: with pairs it says so.
+/// The name of a stored run: with pairs or many types it says so.
 fn named(terms: Terms, name: String) -> String {
-    if terms == Terms::Pairs { format!("pairs {name}") } else { name }
+    match terms {
+        Terms::Plain => name,
+        Terms::Pairs => format!("pairs {name}"),
+        Terms::Many => format!("many {name}"),
+    }
 }
 
 /// Those of the generator that are written by hand; of plain terms also the

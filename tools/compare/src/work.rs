@@ -49,7 +49,7 @@ impl Asked {
     /// Both sides. With pairs the oracle plays what stands ahead of the program.
     pub fn sides(&self) -> Sides {
         let mut sides = Sides::new(self.work, self.cuts);
-        sides.options.ahead = self.terms == Terms::Pairs;
+        sides.options.ahead = self.terms != Terms::Plain;
         sides
     }
 

@@ -1,6 +1,9 @@
 //! A call and a run, as they are put together before they become bytes.
 use crate::term::Term;
 
+/// The code of a call with many types, which are its terms but the first.
+pub const MANY: u8 = 6;
+
 #[derive(Clone, Debug)]
 pub struct Call {
     pub code: u8,
@@ -17,7 +20,23 @@ impl Call {
     pub fn write(&self, out: &mut Vec<u8>) {
         let byte = |n: usize| n.min(255) as u8;
         out.extend([self.code, byte(self.dimensions), byte(self.context.len())]);
-        self.context.iter().take(255).chain(&self.terms).for_each(|t| t.write(out));
+        self.context.iter().take(255).for_each(|t| t.write(out));
+        for (i, t) in self.terms.iter().take(256).enumerate() {
+            t.write(out);
+            if i == 0 && self.code == MANY {
+                out.push(byte(self.terms.len() - 1));
+            }
+        }
+    }
+
+    /// How many answers it has.
+    pub fn blocks(&self) -> usize {
+        let types = self.terms.len().saturating_sub(1);
+        if self.code == MANY && types <= 16 {
+            types.max(1)
+        } else {
+            1
+        }
     }
 }
 

@@ -6,6 +6,7 @@ mod damage;
 mod edges;
 mod kinds;
 mod large;
+mod many;
 mod meeting;
 mod pairs;
 mod random;
@@ -24,5 +25,6 @@ pub fn seeds(terms: Terms) -> Vec<Case> {
     match terms {
         Terms::Plain => seeds::cases(),
         Terms::Pairs => pairs::cases(),
+        Terms::Many => many::cases(),
     }
 }

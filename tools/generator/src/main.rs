@@ -1,6 +1,6 @@
 //! Writes runs as a batch: those at COUNT places from FIRST on under SEED (with
 //! sweep, each in many slices), those written by hand, or all short ones; with
-//! --pairs such that have pairs.
+//! --pairs such that have pairs, with --many calls with many types too.
 use generator::Terms;
 use std::io::{self, BufWriter, Write};
 use std::process::ExitCode;
@@ -8,9 +8,9 @@ use std::process::ExitCode;
 type Cases = Box<dyn Iterator<Item = generator::Case>>;
 
 const USAGE: &str = "\
-generator [--pairs] [sweep] SEED COUNT [FIRST]
-generator [--pairs] seeds
-generator [--pairs] short LENGTH
+generator [--pairs | --many] [sweep] SEED COUNT [FIRST]
+generator [--pairs | --many] seeds
+generator [--pairs | --many] short LENGTH
 ";
 
 fn main() -> ExitCode {
@@ -32,9 +32,12 @@ fn main() -> ExitCode {
 }
 
 fn cases(words: &[String]) -> Option<Cases> {
-    let pairs = words.first().is_some_and(|word| word == "--pairs");
-    let terms = if pairs { Terms::Pairs } else { Terms::Plain };
-    let words = &words[usize::from(pairs)..];
+    let terms = match words.first().map(String::as_str) {
+        Some("--pairs") => Terms::Pairs,
+        Some("--many") => Terms::Many,
+        _ => Terms::Plain,
+    };
+    let words = &words[usize::from(terms != Terms::Plain)..];
     if words == ["seeds"] {
         return Some(Box::new(generator::seeds(terms).into_iter()));
     }

@@ -7,6 +7,8 @@ pub enum Terms {
     Plain,
     /// Pair types too: sigma, pair, fst, snd.
     Pairs,
+    /// These, and calls with many types.
+    Many,
 }
 
 pub struct Random {
@@ -31,7 +33,12 @@ impl Random {
 
     /// Whether pairs may be made.
     pub fn pairs(&self) -> bool {
-        self.terms == Terms::Pairs
+        self.terms != Terms::Plain
+    }
+
+    /// Whether calls with many types may be made.
+    pub fn many(&self) -> bool {
+        self.terms == Terms::Many
     }
 
     /// A number below `plain`, or below `plain + more` where pairs may be made.

@@ -5,7 +5,7 @@ use crate::term::{
     app, fst, lam, neg, pair, papp, path, pi, plam, sigma, snd, Interval, Term, LETTERS,
 };
 use crate::typed::{Maker, Scope};
-use crate::{damage, edges, pairs, shapes};
+use crate::{damage, edges, many, pairs, shapes};
 use Interval::{I0, I1};
 use Term::{Nat, Zero, U, V};
 
@@ -21,7 +21,7 @@ pub fn case(terms: Terms, seed: u64, place: u64) -> Case {
     }
     repeat(random, &mut calls);
     let limit = limit(random);
-    let slices = slices(random, calls.len());
+    let slices = slices(random, calls.iter().map(Call::blocks).sum());
     let mut case = Case::new(slices, limit, &calls);
     if random.chance(1, 10) {
         damage::bytes(random, &mut case.bytes);
@@ -46,6 +46,9 @@ fn noise(random: &mut Random) -> Case {
 }
 
 fn some_calls(random: &mut Random) -> Vec<Call> {
+    if random.many() && random.chance(1, 2) {
+        return many::calls(random);
+    }
     match random.below_with_pairs(20, 6) {
         20.. => pairs::calls(random),
         0..=11 => typed(random),
@@ -62,7 +65,7 @@ fn some_calls(random: &mut Random) -> Vec<Call> {
     }
 }
 
-fn scope(maker: &mut Maker) -> Scope {
+pub fn scope(maker: &mut Maker) -> Scope {
     let dimensions = maker.0.pick(&[0, 0, 0, 1, 1, 2, 3]);
     let length = maker.0.pick(&[0, 0, 0, 1, 1, 2, 3, 4]);
     let fuel = maker.0.below(3);
@@ -137,7 +140,7 @@ fn ends(random: &mut Random) -> Vec<Call> {
 }
 
 /// The same type, perhaps written otherwise.
-fn converted(maker: &mut Maker, s: &Scope, ty: &Term) -> Term {
+pub fn converted(maker: &mut Maker, s: &Scope, ty: &Term) -> Term {
     match maker.0.below(4) {
         0 => maker.disguised(s, ty).unwrap_or(Nat),
         1 => maker.reannotated(s, ty, false),
@@ -275,7 +278,7 @@ pub fn sweep(terms: Terms, seed: u64, place: u64) -> impl Iterator<Item = Case> 
 pub fn short(terms: Terms, length: u32) -> impl Iterator<Item = Case> {
     let all = LETTERS.iter().copied();
     let letters: Vec<u8> =
-        all.filter(|byte| terms == Terms::Pairs || !pairs::KINDS.contains(byte)).collect();
+        all.filter(|byte| terms != Terms::Plain || !pairs::KINDS.contains(byte)).collect();
     let base = letters.len();
     (0..base.pow(length)).map(move |mut n| {
         let mut bytes = vec![100, 0];

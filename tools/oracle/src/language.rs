@@ -236,10 +236,12 @@ pub fn rule_number(name: &str) -> usize {
     place.unwrap_or_else(|| panic!("no rule is named {name}"))
 }
 
-/// How many terms a call of each code has; the highest number of a refusal.
+/// How many terms a call of each code has; the code that has a count and that many
+/// types after them; the highest number of a refusal.
 // written by tools/written.py: calls and refusals
-pub const CALLS: [usize; 6] = [0, 1, 1, 2, 2, 3];
-pub const LAST_REFUSAL: usize = 22;
+pub const CALLS: [usize; 7] = [0, 1, 1, 2, 2, 3, 1];
+pub const MANY: u8 = 6;
+pub const LAST_REFUSAL: usize = 23;
 // end of calls and refusals
 
 /// Of these, what stands ahead of the program and is off unless it is asked for:
@@ -247,7 +249,7 @@ pub const LAST_REFUSAL: usize = 22;
 // written by tools/written.py: ahead of the program
 pub const AHEAD_KINDS: [u8; 0] = [];
 pub const LANDED_RULES: usize = 117;
-pub const LANDED_REFUSAL: usize = 22;
+pub const LANDED_REFUSAL: usize = 23;
 // end of ahead of the program
 
 /// Counts by the number of a refusal and of a rule. Of those ahead of the program

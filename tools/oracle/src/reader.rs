@@ -1,7 +1,8 @@
 //! A run's bytes: the nesting limit and the calls, or refusal 3 with its place.
 use crate::cubical::ast::{Interval, Term};
-use crate::language::{AHEAD_KINDS, CALLS};
+use crate::language::{AHEAD_KINDS, CALLS, MANY};
 
+#[derive(Clone)]
 pub struct Call {
     pub code: u8,
     pub dimensions: usize,
@@ -28,7 +29,7 @@ pub fn read(bytes: &[u8], ahead: bool) -> Result<(u32, Vec<Call>), Bad> {
     }
     let mut calls = Vec::new();
     while reader.at < bytes.len() {
-        calls.push(reader.call()?);
+        calls.append(&mut reader.calls()?);
     }
     Ok((limit, calls))
 }
@@ -42,6 +43,26 @@ impl Reader<'_> {
 
     fn number(&mut self) -> Result<usize, Bad> {
         self.byte().map(usize::from)
+    }
+
+    /// A call; or one with many types written out, a check for each. With no type, or
+    /// more than 16, it is left, and refused.
+    fn calls(&mut self) -> Result<Vec<Call>, Bad> {
+        let call = self.call()?;
+        if call.code != MANY {
+            return Ok(vec![call]);
+        }
+        let count = self.number()?;
+        let types = self.terms(count)?;
+        if !(1..=16).contains(&count) {
+            return Ok(vec![call]);
+        }
+        let check = |ty| {
+            let mut check = Call { code: 3, ..call.clone() };
+            check.terms.push(ty);
+            check
+        };
+        Ok(types.into_iter().map(check).collect())
     }
 
     fn call(&mut self) -> Result<Call, Bad> {

@@ -1,6 +1,7 @@
 //! The calls of a run, over one producer: what the source's own requests were.
 use super::{syntax, Producer, Term};
 use crate::cells::{Cells, Node};
+use crate::language::MANY;
 use crate::reader::Call;
 use crate::refusal::Refusal;
 use crate::run::{Answer, Options, Row, Value};
@@ -87,8 +88,12 @@ impl Player {
     }
 }
 
-/// Refusals 5, 6 and 7, before anything is walked.
+/// Refusals 23, 5, 6 and 7, before anything is walked. A call with many types that
+/// is not written out has a wrong count.
 fn limits(call: &Call) -> Result<()> {
+    if call.code == MANY {
+        return Err(Refusal(23));
+    }
     if call.dimensions > SCOPE || call.context.len() > SCOPE {
         return Err(Refusal(5));
     }
