@@ -290,6 +290,8 @@ def many_types():
         case('types-%d' % count, run(100, many(0, [], ZERO, [NAT] * count), CHECK))
     case('no-type-no-scope', run(100, many(34, [], ZERO, []), many(0, [NAT] * 34, ZERO, [NAT] * 17)))
     say('Accepted and refused types mixed, the same type twice; a check before and after them.')
+    again = run(100, many(0, [], ZERO, [NAT, u(0), NAT]))
+    case('types-3', again)
     mixed = many(0, [], ZERO, [NAT, u(0), NAT, v(0), pi(NAT, NAT), app(lam(u(1), v(0)), NAT), NAT])
     case('types-mixed', run(100, CHECK, mixed, CHECK))
     case('types-mixed-limit-2', run(2, mixed))
@@ -304,7 +306,6 @@ def many_types():
     for words in (4, 3):
         case('types-255-answers-%d' % words, run(100, many(0, [], ZERO, [NAT] * 255)), (16368, 16384, words))
     say('A table or a store that is full inside such a call: a new row is 18, a new cell 20, and a known judgment answers still.')
-    again = run(100, many(0, [], ZERO, [NAT, u(0), NAT]))
     case('types-table-of-two', again, (48, 16384, 16384))
     case('types-store-of-four', again, (16368, 32, 16384))
     say('An early end in the types, before them and in the count; a byte that is no kind among them, also where the count is wrong.')
@@ -403,6 +404,7 @@ SAID = {
     'types-17': ((0, 0, 2, 2, 4, 0), (23, '-', '-', 0), (0, 1, '-', 3)),
     'types-255': ((0, 0, 2, 2, 4, 0), (23, '-', '-', 0), (0, 1, '-', 3)),
     'no-type-no-scope': ((0, 0, 2, 0, 0, 0), (23, '-', '-', 0), (23, '-', '-', 0)),
+    'types-3': ((0, 0, 3, ANY, ANY, 1), (12, '-', '-', ANY), (0, 1, '-', 2)),
     'types-mixed': ((0, 0, 9, ANY, ANY, 4), (0, 1, '-', 2), (0, 1, '-', 2)),
     'types-of-a-pair': ((0, 0, 7, ANY, ANY, ANY), (13, '-', '-', ANY), (0, ANY, '-', ANY)),
     'types-answers-28': ((0, 0, 7, ANY, ANY, 2),),
