@@ -49,6 +49,9 @@ sigma, pair, fst, snd = (NODES[name] for name in 'sigma pair fst snd'.split())
 NO_CODE = CALLS[-1].code + 1
 NO_TERM, NO_INTERVALS = TERMS[-1].byte + 1, (INTERVALS[0].byte - 1, INTERVALS[-1].byte + 1)
 
+# The code of a call with many types.
+MANY = next(c.code for c in CALLS if c.counted)
+
 
 def times(n, f, x):
     for _ in range(n):
@@ -58,6 +61,11 @@ def times(n, f, x):
 
 def call(code, dims, context, terms):
     return [code, dims, len(context)] + sum(context, []) + sum(terms, [])
+
+
+def many(dims, context, t, types):
+    "one term and many types"
+    return call(MANY, dims, context, [t, [len(types)]] + types)
 
 
 def run(limit, *calls):
@@ -276,6 +284,52 @@ def pairs():
     case('pair-ends-early', [100, 0, 2, 0, 0] + pair(both, ZERO, []))
 
 
+def many_types():
+    say('One term, many types: counts of 0, 1, 16, 17 and 255. A wrong count is one call with 23, which goes before 5.')
+    for count in (0, 1, 16, 17, 255):
+        case('types-%d' % count, run(100, many(0, [], ZERO, [NAT] * count), CHECK))
+    case('no-type-no-scope', run(100, many(34, [], ZERO, []), many(0, [NAT] * 34, ZERO, [NAT] * 17)))
+    say('Accepted and refused types mixed, the same type twice; a check before and after them.')
+    again = run(100, many(0, [], ZERO, [NAT, u(0), NAT]))
+    case('types-3', again)
+    mixed = many(0, [], ZERO, [NAT, u(0), NAT, v(0), pi(NAT, NAT), app(lam(u(1), v(0)), NAT), NAT])
+    case('types-mixed', run(100, CHECK, mixed, CHECK))
+    case('types-mixed-limit-2', run(2, mixed))
+    both = sigma(NAT, NAT)
+    hidden = app(lam(NAT, NAT), ZERO)
+    p = pair(both, ZERO, ZERO)
+    exposed = app(lam(u(0), v(0)), both)
+    case('types-of-a-pair', run(100, many(0, [], p, [both, NAT, sigma(NAT, hidden), exposed, both]), many(0, [], snd(p), [both, NAT])))
+    say('Four answer words for each type: exactly enough, one word short, one type short. A wrong count has four.')
+    for words in (28, 27, 24):
+        case('types-answers-%d' % words, run(100, mixed), (16368, 16384, words))
+    for words in (4, 3):
+        case('types-255-answers-%d' % words, run(100, many(0, [], ZERO, [NAT] * 255)), (16368, 16384, words))
+    say('A table or a store that is full inside such a call: a new row is 18, a new cell 20, and a known judgment answers still.')
+    case('types-table-of-two', again, (48, 16384, 16384))
+    case('types-store-of-four', again, (16368, 32, 16384))
+    say('An early end in the types, before them and in the count; a byte that is no kind among them, also where the count is wrong.')
+    for length in range(len(again) - 5, len(again)):
+        case('types-end-%d' % length, again[:length])
+    case('types-no-kind', again[:-1] + [NO_TERM])
+    case('types-17-no-kind', run(100, many(0, [], ZERO, [NAT] * 16 + [[NO_TERM]])))
+    case('types-17-end', run(100, many(0, [], ZERO, [NAT] * 17))[:-1])
+    say('Limits for each type: 5 for all; 6 and 7 in the context or the term for all, in a type for that one; what all share goes first.')
+    case('types-no-scope', run(100, many(34, [], ZERO, [NAT, NAT])))
+    case('types-no-index', run(100, many(0, [v(33)], ZERO, [NAT, NAT]), many(0, [], v(33), [NAT, NAT]), many(0, [], ZERO, [v(33), NAT])))
+    tall = times(33, lambda t: pi(NAT, t), NAT)
+    case('types-no-depth', run(100, many(0, [tall], ZERO, [NAT, NAT]), many(0, [], tall, [NAT, NAT]), many(0, [], ZERO, [tall, NAT])))
+    case('types-shared-first', run(100, many(0, [v(33)], ZERO, [tall, NAT]), many(0, [], tall, [v(33), NAT])))
+    say('Nodes of types do not add up: 10,000 with one of them pass, 10,001 do not; the limit 1 ends the walk of those that pass.')
+    tree = lambda n: times(n, lambda t: app(t, t), ZERO)
+    case('types-nodes', run(1, many(0, [], tree(11), [tree(11), tree(11), tree(12), tree(11)])))
+    case('types-nodes-10000', run(1, many(0, [tree(n) for n in (12, 9, 8, 7, 3, 1)], ZERO, [NAT, fst(ZERO), NAT])))
+    say('The most calls that a run can have: types of one byte, 16 of them for five bytes more, and nine at the end.')
+    most = [many(0, [], ZERO, [NAT] * 16)] * 3120 + [many(0, [], ZERO, [NAT] * 9)]
+    case('calls-49929', run(100, *most), (16368, 16384, 199716))
+    case('calls-49929-answers-short', run(100, *most), (16368, 16384, 199715))
+
+
 def wrapped(*heights):
     "each annotation has to be converted inside the conversion of the next"
     bases = [NAT] + [app(lam(NAT, NAT), v(0))] * (len(heights) - 1)
@@ -344,6 +398,33 @@ SAID = {
     'no-pair-stays': ((0, 0, 1, ANY, ANY, 0), (0, ANY, '(fst (v 0))', ANY)),
     'no-eta': ((0, 0, 1, ANY, ANY, 0), (13, '-', '-', ANY)),
     'depth-33-of-pairs': ((0, 0, 1, 0, 0, 0), (6, '-', '-', 0)),
+    'types-0': ((0, 0, 2, 2, 4, 0), (23, '-', '-', 0), (0, 1, '-', 3)),
+    'types-1': ((0, 0, 2, 2, 4, 1), (0, 1, '-', 3), (0, 1, '-', 2)),
+    'types-16': ((0, 0, 17, 2, 4, 16), (0, 1, '-', 2), (0, 1, '-', 2)),
+    'types-17': ((0, 0, 2, 2, 4, 0), (23, '-', '-', 0), (0, 1, '-', 3)),
+    'types-255': ((0, 0, 2, 2, 4, 0), (23, '-', '-', 0), (0, 1, '-', 3)),
+    'no-type-no-scope': ((0, 0, 2, 0, 0, 0), (23, '-', '-', 0), (23, '-', '-', 0)),
+    'types-3': ((0, 0, 3, ANY, ANY, 1), (12, '-', '-', ANY), (0, 1, '-', 2)),
+    'types-mixed': ((0, 0, 9, ANY, ANY, 4), (0, 1, '-', 2), (0, 1, '-', 2)),
+    'types-of-a-pair': ((0, 0, 7, ANY, ANY, ANY), (13, '-', '-', ANY), (0, ANY, '-', ANY)),
+    'types-answers-28': ((0, 0, 7, ANY, ANY, 2),),
+    'types-answers-27': ((4, 0, 0, 0, 0, 0),),
+    'types-answers-24': ((4, 0, 0, 0, 0, 0),),
+    'types-255-answers-4': ((0, 0, 1, 0, 0, 0), (23, '-', '-', 0)),
+    'types-255-answers-3': ((4, 0, 0, 0, 0, 0),),
+    'types-table-of-two': ((0, 0, 3, 2, ANY, 1), (18, '-', '-', ANY), (0, 1, '-', 2)),
+    'types-store-of-four': ((0, 0, 3, 2, 4, 1), (20, '-', '-', 1), (0, 1, '-', 2)),
+    'types-no-kind': ((3, 10, 0, 0, 0, 0),),
+    'types-17-no-kind': ((3, 23, 0, 0, 0, 0),),
+    'types-17-end': ((3, 23, 0, 0, 0, 0),),
+    'types-no-scope': ((0, 0, 2, 0, 0, 0), (5, '-', '-', 0), (5, '-', '-', 0)),
+    'types-no-index': ((0, 0, 6, 2, 4, 0), (7, '-', '-', 0), (0, 1, '-', 3)),
+    'types-no-depth': ((0, 0, 6, 2, 4, 0), (6, '-', '-', 0), (0, 1, '-', 3)),
+    'types-shared-first': ((0, 0, 4, 0, 0, 0), (6, '-', '-', 0), (6, '-', '-', 0)),
+    'types-nodes': ((0, 0, 4, 0, ANY, 0), (6, '-', '-', 0), (19, '-', '-', 1)),
+    'types-nodes-10000': ((0, 0, 3, 0, ANY, 0), (6, '-', '-', 0), (19, '-', '-', 1)),
+    'calls-49929': ((0, 0, 49929, 2, 4, 49928), (0, 1, '-', 2), (0, 1, '-', 2)),
+    'calls-49929-answers-short': ((4, 0, 0, 0, 0, 0),),
     'limit-2-full-store': ((0, 0, 1, 0, 3, 0), (19, '-', '-', 2)),
     'limit-2-one-cell-less': ((0, 0, 1, 0, 2, 0), (20, '-', '-', 1)),
     'limit-1-met': ((0, 0, 2, 1, ANY, 0), (0, 0, '-', 1)),
@@ -396,7 +477,7 @@ HEAD = """\
 
 
 def write_cases():
-    for part in (at_the_edges, slices, whole_runs, call_limits, walks, pairs):
+    for part in (at_the_edges, slices, whole_runs, call_limits, walks, pairs, many_types):
         part()
     print(HEAD)
     names = set()

@@ -23,7 +23,7 @@ const FILL: u32 = 2863311530;
 const PAST: usize = 8192;
 
 // More calls than any run has.
-const CALLS: usize = 21846;
+const CALLS: usize = 49930;
 
 // The words of each slice that a case lends.
 #[derive(Clone, Copy)]

@@ -46,13 +46,13 @@ fn headers(rt: &impl Print) -> io::Result<()> {
     run(rt, "limit 1", &[1, 0])?;
     run(rt, "limit 4096", &[0, 16])?;
     run(rt, "limit 4097", &[1, 16])?;
-    run(rt, "limit 0, then no code", &[0, 0, 6])
+    run(rt, "limit 0, then no code", &[0, 0, 7])
 }
 
 // The place is the leftmost byte that may not stand there, or the length.
 fn places(rt: &impl Print) -> io::Result<()> {
     run(rt, "check zero at nat", &[100, 0, 3, 0, 0, 4, 3])?;
-    run(rt, "no code", &[100, 0, 6, 0, 0, 4, 3])?;
+    run(rt, "no code", &[100, 0, 7, 0, 0, 4, 3])?;
     run(rt, "code alone", &[100, 0, 3])?;
     run(rt, "no length", &[100, 0, 3, 0])?;
     run(rt, "no term", &[100, 0, 3, 0, 0])?;
@@ -68,6 +68,31 @@ fn places(rt: &impl Print) -> io::Result<()> {
     run(rt, "papp with a term", &[100, 0, 2, 0, 0, 10, 4, 4])?;
     run(rt, "interval for a term", &[100, 0, 2, 0, 0, 16])?;
     run(rt, "second call cut", &[100, 0, 0, 0, 0, 1, 0])
+}
+
+// One term and many types: a call for each, or one where their count is wrong.
+fn many(rt: &impl Print) -> io::Result<()> {
+    run(rt, "two types", &[100, 0, 6, 0, 0, 4, 2, 3, 3])?;
+    run(rt, "no type", &[100, 0, 6, 0, 0, 4, 0])?;
+    run(rt, "no count", &[100, 0, 6, 0, 0, 4])?;
+    run(rt, "one type of two", &[100, 0, 6, 0, 0, 4, 2, 3])?;
+    run(
+        rt,
+        "no kind in the second type",
+        &[100, 0, 6, 0, 0, 4, 2, 3, 15],
+    )?;
+    run(
+        rt,
+        "then a check",
+        &[100, 0, 6, 0, 0, 4, 2, 3, 3, 3, 0, 0, 4, 3],
+    )
+}
+
+// A call with so many types that are nat.
+fn drafts(rt: &(impl Print + AllocGlobal), label: &str, count: u8) -> io::Result<()> {
+    let mut bytes = vec![in rt.alloc(); 100, 0, 6, 0, 0, 4, count]?;
+    bytes.extend(iter::repeat_n(3, usize::from(count)))?;
+    run(rt, label, &bytes)
 }
 
 // infer papp(zero, neg .. neg dim n), with so many negs: the dim's depth is one more.
@@ -129,11 +154,25 @@ fn large(rt: &(impl Print + AllocGlobal)) -> io::Result<()> {
     run(rt, "65537 bytes", &bytes)
 }
 
+// The most calls that a run has: types of one byte, 16 of them for five bytes more, and nine at the end.
+fn most(rt: &(impl Print + AllocGlobal)) -> io::Result<()> {
+    let mut bytes = vec![in rt.alloc(); 100, 0]?;
+    for count in iter::repeat_n(16, 3120).chain([9]) {
+        bytes.extend([6, 0, 0, 4, count])?;
+        bytes.extend(iter::repeat_n(3, usize::from(count)))?;
+    }
+    run(rt, "the most calls", &bytes)
+}
+
 fn main(rt: HostRuntime) -> io::Result<()> {
     headers(&rt)?;
     places(&rt)?;
+    many(&rt)?;
+    drafts(&rt, "16 types", 16)?;
+    drafts(&rt, "17 types", 17)?;
     limits(&rt)?;
     nodes(&rt, "10000 nodes", 8)?;
     nodes(&rt, "10001 nodes", 9)?;
-    large(&rt)
+    large(&rt)?;
+    most(&rt)
 }
