@@ -9,7 +9,7 @@ use Rattle.producer.specs.Machine.{Machine, Result}
 use Rattle.producer.specs.Callees.{Callees}
 use Rattle.producer.specs.Calls.{callees}
 use Rattle.walk.specs.Syntax.{Term, Context, Nil}
-use Rattle.walk.specs.State.{State, Row, Thing, term, Outcome, with_deepest}
+use Rattle.walk.specs.State.{State, Thing, term, Outcome, with_deepest}
 use Rattle.walk.specs.Walk.{callees as walk_callees}
 use Rattle.walk.specs.Reader.{Code, c_context, c_universe, c_infer, c_check, c_normalise, c_equal, c_many, lists_types, Call}
 use Rattle.walk.specs.Limits.{Sized, fits, scope_over, size_over, index_over, size_call}
@@ -17,8 +17,7 @@ use Rattle.walk.specs.Run.{a_term, Answer, answered, scope_of, nth, walk, play_s
 use Rattle.walk.specs.Run as R
 use Rattle.order.specs.Numbers.{context_top}
 use Rattle.order.specs.Guarded.{guarded}
-use Rattle.walk.specs.Demand.{Extends as Grows}
-use Rattle.order.specs.Counts.{play_counts, play_all_counts}
+use Rattle.order.specs.Made.{played_more}
 use Rattle.order.specs.Bound.{Fit}
 use Rattle.order.specs.Sent.{Lows, nth_low, scope_low, let_in}
 use Rattle.order.proofs.Never.{start_fits}
@@ -93,16 +92,6 @@ asked_call {o} {w} {s} call f h = go (lists_types call.code)
     go : (b : Bool) → Leaves o s.cells (ask_counted b call w) (play_counted b call s)
     go true = turned_leaves _ f h
     go false = asked_sized call f h
-
-longer : {rs rs' : List Row} → Grows rs rs' → length rs ≤ length rs'
-longer Grows.same = omega arith
-longer (Grows.more e) = let l = longer e in omega arith
-
-pub played_more : (call : Call) (s : State) → length s.rows ≤ length (play call s).1.rows
-played_more call s = longer (play_counts call s).grown.rows
-
-pub all_played_more : (calls : List Call) (s : State) → length s.rows ≤ length (play_all calls s).1.rows
-all_played_more calls s = longer (play_all_counts calls s).grown.rows
 
 -- the rows of a call get its number
 pub marked_call : {o : Before} {w : Machine} {s : State} (n : ℕ) (call : Call) → Holds o w s → Holds o (ask_call call w).1 (play call s).1 → Marks o (ask_call call w).1 (play call s).1 ((ask_call call w).1.state.rows - w.state.rows) w.state.rows n
