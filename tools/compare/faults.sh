@@ -14,8 +14,9 @@ work=$(mktemp -d)
 trap 'rm -rf "$work"' EXIT
 failed=0
 
-# fault NAME FILE OLD NEW: the first line that is OLD becomes NEW. With no FILE the
-# copy is as it was.
+# fault NAME FILE OLD NEW [REPLAY]: the first line that is OLD becomes NEW. With no
+# FILE the copy is as it was. REPLAY is 0 where what is wrong shows in no listing,
+# and so not in `replay`.
 fault() {
     copy=$work/copy
     rm -rf "$copy"
@@ -44,7 +45,7 @@ fault() {
     tail -n1 "$work/tried"
     status=0
     cmp -s "$work/tried" "$copy/crates/replay/stdout" || status=1
-    [ -s "$work/tried" ] && [ "$status" -eq "$wanted" ] || { echo "replay: not as it should be"; failed=1; }
+    [ -s "$work/tried" ] && [ "$status" -eq "${5:-$wanted}" ] || { echo "replay: not as it should be"; failed=1; }
 }
 
 fault 'no fault' '' '' ''
@@ -56,5 +57,8 @@ fault '20 while there is space' run/src/entry.rt \
     '    let cellroom = cap(cells / 8, 4294967295);' '    let cellroom = cap(cells / 9, 4294967295);'
 fault 'a refused conversion is not ended' producer/src/answers.rt \
     '            Err(left.refused(refused.refusal))' '            Err(refused)'
+fault "a refused call's rows have the next call's number" run/src/entry.rt \
+    '        mark(rows, s.rows, turn.state.rows, i);' \
+    '        mark(rows, s.rows, turn.state.rows, if turn.number == 0 { i } else { i + 1 });' 0
 [ "$failed" -eq 0 ] && echo "every fault is caught"
 exit "$failed"

@@ -283,13 +283,13 @@ rows_back n R C [] h = refl
 rows_back n R C (r ∷ rs) h = rw (h (length rs) r (here refl), rows_back n R C rs (λ i s k. h i s (there k)))
 
 -- the words of a row before its working words, whatever those are
-tops_same : (rule : ℕ) (l : Refs) (kind count a b c d e m n o p m' n' o' p' k : ℕ) → k < 18 → get_or (row_of rule l kind count a b c d e m' n' o' p') k 0 ≡ get_or (row_of rule l kind count a b c d e m n o p) k 0
-tops_same rule l kind count a b c d e m n o p m' n' o' p' k h =
-    let tops = take 20 (row_of rule l kind count a b c d e m n o p) in
-    get_or-append tops (m' ∷ n' ∷ o' ∷ p' ∷ []) 0 k (omega arith) ∙ sym (get_or-append tops (m ∷ n ∷ o ∷ p ∷ []) 0 k (omega arith))
+tops_same : (rule : ℕ) (l : Refs) (kind count a b c d e made m n o p made' m' n' o' p' k : ℕ) → k < 18 → get_or (row_of rule l kind count a b c d e made' m' n' o' p') k 0 ≡ get_or (row_of rule l kind count a b c d e made m n o p) k 0
+tops_same rule l kind count a b c d e made m n o p made' m' n' o' p' k h =
+    let tops = take 18 (row_of rule l kind count a b c d e made m n o p) in
+    get_or-append tops (made' ∷ kind ∷ m' ∷ n' ∷ o' ∷ p' ∷ []) 0 k (omega arith) ∙ sym (get_or-append tops (made ∷ kind ∷ m ∷ n ∷ o ∷ p ∷ []) 0 k (omega arith))
 
 line_stays : {xs ys : List Thing} {rs rs' : List Row} {r : Row} {bs bs' : List ℕ} → Extends xs ys → Line xs rs r bs → Line ys rs' r bs' → LineStays xs rs r bs bs'
-line_stays x (line {kind} {count} {a} {b} {c} {d} {e} {m} {n} {o} {p} {r} s) (line {kind = kind'} {count = count'} {a = a'} {b = b'} {c = c'} {d = d'} {e = e'} {m = m'} {n = n'} {o = o'} {p = p'} s') =
+line_stays x (line {kind} {count} {a} {b} {c} {d} {e} {made} {m} {n} {o} {p} {r} s) (line {kind = kind'} {count = count'} {a = a'} {b = b'} {c = c'} {d = d'} {e = e'} {made = made'} {m = m'} {n = n'} {o = o'} {p = p'} s') =
     let w = j_words (j_lift x s) s' in
     let q₀ : kind ≡ kind' = cc in
     let q₁ : count ≡ count' = cc in
@@ -298,10 +298,10 @@ line_stays x (line {kind} {count} {a} {b} {c} {d} {e} {m} {n} {o} {p} {r} s) (li
     let q₄ : c ≡ c' = cc in
     let q₅ : d ≡ d' = cc in
     let q₆ : e ≡ e' = cc in
-    let t : row_of r.rule (refs_of r.refs) kind' count' a' b' c' d' e' m n o p ≡ row_of r.rule (refs_of r.refs) kind count a b c d e m n o p = cc in
+    let t : row_of r.rule (refs_of r.refs) kind' count' a' b' c' d' e' made m n o p ≡ row_of r.rule (refs_of r.refs) kind count a b c d e made m n o p = cc in
     record {
       is = line (rw (q₀, q₁, q₂, q₃, q₄, q₅, q₆) at s);
-      tops = λ k l. tops_same r.rule (refs_of r.refs) kind' count' a' b' c' d' e' m n o p m' n' o' p' k l ∙ ap (λ (v : List ℕ). get_or v k 0) t;
+      tops = λ k l. tops_same r.rule (refs_of r.refs) kind' count' a' b' c' d' e' made m n o p made' m' n' o' p' k l ∙ ap (λ (v : List ℕ). get_or v k 0) t;
     }
 
 -- the words of a row, one by one

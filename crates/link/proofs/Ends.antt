@@ -27,7 +27,7 @@ nothing_yet : {ws : List ℕ} → Remembers [] [] ws
 unfolding first recall
 nothing_yet k = no_memory
 
-pub starts : (limit : ℕ) (rows cells : List ℕ) → Holds (record { rows = rows; cells = cells }) (start limit rows cells) (walk_start limit (length rows) (length cells))
+pub starts : (limit : ℕ) (rows cells : List ℕ) → Holds (record { rows = rows; cells = cells; made = λ _. 0 }) (start limit rows cells) (walk_start limit (length rows) (length cells))
 unfolding start walk_start
 starts limit rows cells = record {
   words = record { cells_used = []; rows_used = []; cells_are = no_block; rows_are = no_block; memory = nothing_yet; distinct = none_distinct; cells_end = refl; rows_end = refl };
@@ -36,6 +36,8 @@ starts limit rows cells = record {
   rows_fit = omega arith;
   rows_index = index_none;
   cells_index = index_none;
+  made = λ n l. absurd (omega arith);
+  to_come = λ n l. refl;
 }
 
 -- the words past the rows stay

@@ -3,5 +3,6 @@ pub mod Things
 pub mod Back
 pub mod Calls
 pub mod Ends
+pub mod Marks
 pub mod Runs
 pub mod Words

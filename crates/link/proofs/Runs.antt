@@ -1,7 +1,7 @@
 -- A list of calls over words: each call's four answer words say what the walk answers, and the words that are left stand for
 -- the walk's state: `runs`.
-use Rattle.std.specs.Prelude.{ℕ, ◌+◌, ◌≤◌, ◌≡◌, refl, List, [], ◌∷◌, Bool, true, false, length}
-use Rattle.std.proofs.Common.{sym, subst, arith}
+use Rattle.std.specs.Prelude.{ℕ, suc, ◌+◌, ◌-◌, ◌≤◌, ◌<◌, ◌≡◌, refl, List, [], ◌∷◌, Bool, true, false, length, ltb}
+use Rattle.std.proofs.Common.{sym, ◌∙◌, subst, arith, add-zero, ltb-true, ltb-false}
 use Rattle.std.proofs.Math.Path.{ap}
 use Rattle.ast.specs.Cells.{quote_of}
 use Rattle.producer.specs.declared.State.{State as Counts}
@@ -13,10 +13,11 @@ use Rattle.walk.specs.State.{State, Thing, term, Outcome, with_deepest}
 use Rattle.walk.specs.Walk.{callees as walk_callees}
 use Rattle.walk.specs.Reader.{Code, c_context, c_universe, c_infer, c_check, c_normalise, c_equal, c_many, lists_types, Call}
 use Rattle.walk.specs.Limits.{Sized, fits, scope_over, size_over, index_over, size_call}
-use Rattle.walk.specs.Run.{a_term, Answer, answered, scope_of, nth, walk, play_sized, play_counted, play, play_all}
+use Rattle.walk.specs.Run.{a_term, Answer, answered, scope_of, nth, walk, play_sized, play_counted, play, play_all, added_by}
 use Rattle.walk.specs.Run as R
 use Rattle.order.specs.Numbers.{context_top}
 use Rattle.order.specs.Guarded.{guarded}
+use Rattle.order.specs.Made.{played_more}
 use Rattle.order.specs.Bound.{Fit}
 use Rattle.order.specs.Sent.{Lows, nth_low, scope_low, let_in}
 use Rattle.order.proofs.Never.{start_fits}
@@ -26,10 +27,11 @@ use Rattle.link.specs.Store.{quote_is}
 use Rattle.link.specs.Holds.{Before, Holds, read_cell}
 use Rattle.link.specs.Linked.{Linked}
 use Rattle.link.specs.Link.{ready, link}
-use Rattle.link.specs.Asked.{Said, told, ask, turned, afresh, ask_sized, ask_counted, ask_call, ask_all, start}
+use Rattle.link.specs.Asked.{Said, told, ask, turned, afresh, ask_sized, ask_counted, ask_call, with_marks, ask_from, ask_all, start}
 use Rattle.link.specs.Ends.{Ends, in_value, in_refusal}
 use Rattle.link.proofs.Ends.{starts, contexted, levelled, inferred, checked, normalised, equalled}
-use Rattle.link.specs.Runs.{Results, no_word, level_word, term_word, Says, Leaves, Fits, none_say, says_on, EndsRun}
+use Rattle.link.specs.Runs.{Results, no_word, level_word, term_word, Says, Leaves, Fits, none_say, says_on, numbered, Marks, EndsRun}
+use Rattle.link.proofs.Marks.{marks}
 
 results_lift : {xs ys : List Thing} {n : ℕ} {r : R.Result} → Extends xs ys → Results xs n r → Results ys n r
 results_lift e no_word = no_word
@@ -67,7 +69,7 @@ asked n L c_many d g ts l i k f h = turned_leaves _ f h
 -- deepest starts from 0
 pub afresh_holds : {o : Before} {w : Machine} {s : State} → Holds o w s → Holds o (afresh w) (with_deepest 0 s)
 unfolding afresh with_deepest
-afresh_holds h = record { words = h.words; counts = rw h.counts; cells_fit = h.cells_fit; rows_fit = h.rows_fit; rows_index = h.rows_index; cells_index = h.cells_index }
+afresh_holds h = record { words = h.words; counts = rw h.counts; cells_fit = h.cells_fit; rows_fit = h.rows_fit; rows_index = h.rows_index; cells_index = h.cells_index; made = h.made; to_come = h.to_come }
 
 asked_sized : {o : Before} {w : Machine} {s : State} (call : Call) → Fit s → Holds o w s → Leaves o s.cells (ask_sized (size_call call) call w) (play_sized (size_call call) call s)
 unfolding play_sized ask_sized with_deepest
@@ -91,15 +93,38 @@ asked_call {o} {w} {s} call f h = go (lists_types call.code)
     go true = turned_leaves _ f h
     go false = asked_sized call f h
 
-pub asked_all : {o : Before} {w : Machine} {s : State} (calls : List Call) → Fit s → Holds o w s → EndsRun o s.cells (ask_all calls w) (play_all calls s)
-unfolding ask_all play_all
-asked_all [] f h = record { extends = same; holds = h; fit = f; says = none_say }
-asked_all {w = w} {s = s} (call ∷ calls) f h =
+-- the rows of a call get its number
+pub marked_call : {o : Before} {w : Machine} {s : State} (n : ℕ) (call : Call) → Holds o w s → Holds o (ask_call call w).1 (play call s).1 → Marks o (ask_call call w).1 (play call s).1 ((ask_call call w).1.state.rows - w.state.rows) w.state.rows n
+marked_call {w = w} {s = s} n call h k =
+    let e : w.state.rows ≡ length s.rows = ap (λ (c : Counts). c.rows) h.counts in
+    let f : (ask_call call w).1.state.rows ≡ length (play call s).1.rows = ap (λ (c : Counts). c.rows) k.counts in
+    let l = played_more call s in
+    marks {w = (ask_call call w).1} {s = (play call s).1} _ _ n (omega arith) k
+
+pub asked_from : {o : Before} {w : Machine} {s : State} (n : ℕ) (calls : List Call) → Fit s → Holds o w s → EndsRun o s n calls (ask_from n calls w)
+unfolding ask_from play_all added_by
+asked_from {o} n [] f h = record { made = o.made; extends = same; holds = h; fit = f; says = none_say; before = λ k l. refl; added = λ k l m. absurd (omega arith) }
+asked_from {o} {w} {s} n (call ∷ calls) f h =
     let a = asked_call call f h in
-    let b = asked_all {w = (ask_call call w).1} {s = (play call s).1} calls a.fit a.holds in
-    record { extends = extends_trans a.extends b.extends; holds = b.holds; fit = b.fit; says = says_on (says_lift b.extends a.says) b.says }
+    let c = marked_call n call h a.holds in
+    let b = asked_from {o = numbered c.made o} {w = with_marks n w.state.rows (ask_call call w).1} {s = (play call s).1} (suc n) calls a.fit c.holds in
+    let e : w.state.rows ≡ length s.rows = ap (λ (c : Counts). c.rows) h.counts in
+    let g : (ask_call call w).1.state.rows ≡ length (play call s).1.rows = ap (λ (c : Counts). c.rows) a.holds.counts in
+    let l = played_more call s in
+    record {
+      made = b.made;
+      extends = extends_trans a.extends b.extends;
+      holds = b.holds;
+      fit = b.fit;
+      says = says_on (says_lift b.extends a.says) b.says;
+      before = λ k m. b.before k (omega arith) ∙ c.below k (omega arith);
+      added = λ k m i. go b.made k (ltb k (length (play call s).1.rows)) refl (λ j. b.before k j ∙ c.inside k (omega arith) (omega arith)) (λ j. b.added k j i);
+    }
+  where
+    go : (made : ℕ → ℕ) (k : ℕ) (t : Bool) → ltb k (length (play call s).1.rows) ≡ t → (k < length (play call s).1.rows → made k ≡ n) → (length (play call s).1.rows ≤ k → made k ≡ suc n + added_by k calls (play call s).1) → made k ≡ n + (elim t as (λ _. ℕ) [ true ↦ 0 | false ↦ suc (added_by k calls (play call s).1) ])
+    go made k true q x y = rw add-zero (x (ltb-true k (length (play call s).1.rows) q))
+    go made k false q x y = y (ltb-false k (length (play call s).1.rows) q) ∙ omega arith
 
 -- from the start, over slices that held anything
-pub runs : (limit : ℕ) (rows cells : List ℕ) (calls : List Call) → limit ≤ 4096 → EndsRun (record { rows = rows; cells = cells }) [] (ask_all calls (start limit rows cells)) (play_all calls (R.start limit (length rows) (length cells)))
-unfolding R.start
-runs limit rows cells calls l = asked_all calls (start_fits limit (length rows) (length cells) l) (starts limit rows cells)
+pub runs : (limit : ℕ) (rows cells : List ℕ) (calls : List Call) → limit ≤ 4096 → EndsRun (record { rows = rows; cells = cells; made = λ _. 0 }) (R.start limit (length rows) (length cells)) 0 calls (ask_all calls (start limit rows cells))
+runs limit rows cells calls l = asked_from 0 calls (start_fits limit (length rows) (length cells) l) (starts limit rows cells)

@@ -1,7 +1,7 @@
 -- A run over words, from bytes: what it answers and leaves is what the definition of the run says, and demand 3 holds of its
 -- table: `words`.
 use Rattle.std.specs.Prelude.{ℕ, suc, ◌+◌, ◌*◌, ◌≤◌, ◌<◌, ◌≡◌, refl, List, [], ◌∷◌, ◌++◌, Bool, true, false, ◌||◌, length, get_or, ltb}
-use Rattle.std.proofs.Common.{arith, suc-mul, length-drop, nltb→le}
+use Rattle.std.proofs.Common.{sym, ◌∙◌, arith, ltb-true, suc-mul, length-drop, nltb→le}
 use Rattle.std.proofs.Math.Path.{ap}
 use Rattle.std.proofs.Math.Option.{some}
 use Rattle.std.proofs.Math.Nat.{mul-div-le}
@@ -11,7 +11,7 @@ use Rattle.producer.specs.Machine.{Machine}
 use Rattle.walk.specs.Refusal as Refusal
 use Rattle.walk.specs.State.{State, Row, Thing}
 use Rattle.walk.specs.Reader.{Read, got, bad, Call, read_run}
-use Rattle.walk.specs.Run.{Result, Answer, Ran, refused_run, played, play, play_all, run_read, run}
+use Rattle.walk.specs.Run.{Result, Answer, Ran, refused_run, played, play, play_all, added_by, carried_in, made_by, run_read, run}
 use Rattle.walk.specs.Run as R
 use Rattle.walk.specs.Demand.{RowAt, newest, older, DerivationOrder, Demand3}
 use Rattle.walk.specs.Demand.{Extends as Grows}
@@ -25,14 +25,14 @@ use Rattle.order.specs.Derivation.{derivation_order}
 use Rattle.order.specs.Theorem.{start_good, demand_3}
 use Rattle.link.specs.Lists.{Extends, same, more, blocks_length, stays}
 use Rattle.link.specs.Holds.{Before, Holds}
-use Rattle.link.specs.Asked.{Said, ask_call, ask_all, start, four_words, written_over}
+use Rattle.link.specs.Asked.{Said, ask_call, with_marks, ask_from, ask_all, start, four_words, written_over}
 use Rattle.link.specs.Things.{no_cell}
 use Rattle.link.proofs.Things.{low_is}
-use Rattle.link.specs.Table.{table_at, TableWords, result_word, AnswerWords, AnswerAt, this_answer, later_answer}
+use Rattle.link.specs.Table.{row_word, table_at, TableWords, result_word, AnswerWords, AnswerAt, this_answer, later_answer}
 use Rattle.link.proofs.Back.{words_stay, table_stays, table_told, memory_told}
 use Rattle.link.proofs.Ends.{starts, past, past_cells}
 use Rattle.link.specs.Runs.{Results, no_word, level_word, term_word, AllSay, none_say, says_on}
-use Rattle.link.proofs.Runs.{asked_all, asked_call, runs}
+use Rattle.link.proofs.Runs.{asked_from, asked_call, runs}
 use Rattle.link.specs.Words.{AskedWords}
 
 -- four words more in front
@@ -58,10 +58,10 @@ unfolding four_words
 said_words none_say = refl
 said_words (says_on {bs = bs} x xs) = let e = said_words xs in let f = suc-mul (length bs) 4 in omega arith
 
-pub said_calls : (calls : List Call) (w : Machine) → length (four_words (ask_all calls w).0) ≡ 4 * length calls
-unfolding four_words ask_all
-said_calls [] w = refl
-said_calls (call ∷ calls) w = let e = said_calls calls (ask_call call w).1 in omega arith
+pub said_calls : (n : ℕ) (calls : List Call) (w : Machine) → length (four_words (ask_from n calls w).0) ≡ 4 * length calls
+unfolding four_words ask_from
+said_calls n [] w = refl
+said_calls n (call ∷ calls) w = let e = said_calls (suc n) calls (with_marks n w.state.rows (ask_call call w).1) in omega arith
 
 -- the first calls of a list: the others only add rows and cells
 first_rows : (first others : List Call) (s : State) → Good s → Grows (play_all first s).1.rows (play_all (first ++ others) s).1.rows
@@ -71,7 +71,7 @@ first_rows (call ∷ first) others s g = first_rows first others (play call s).1
 
 first_cells : {o : Before} {w : Machine} {s : State} (first others : List Call) → Fit s → Holds o w s → Extends (play_all first s).1.cells (play_all (first ++ others) s).1.cells
 unfolding play_all
-first_cells [] others f h = (asked_all others f h).extends
+first_cells [] others f h = (asked_from 0 others f h).extends
 first_cells {w = w} {s = s} (call ∷ first) others f h = let a = asked_call call f h in first_cells {w = (ask_call call w).1} {s = (play call s).1} first others a.fit a.holds
 
 extends : {rs rs' : List Row} → Grows rs rs' → Extends rs rs'
@@ -99,10 +99,28 @@ module _ (limit : ℕ) (rows cells : List ℕ) (first others : List Call) (most 
   pub first_words : {r : Row} (i k : ℕ) → RowAt i r (play_all first began).1.rows → k < 18 → get_or (ask_all (first ++ others) (start limit rows cells)).1.rows (i * 24 + k) 0 ≡ get_or (ask_all first (start limit rows cells)).1.rows (i * 24 + k) 0
   first_words = words_stay (runs limit rows cells first most).holds (runs limit rows cells (first ++ others) most).holds more_rows more_cells
 
+-- a run starts with no row
+made_from_none : (n : ℕ) (calls : List Call) (limit row_words cell_words : ℕ) → made_by n calls (R.start limit row_words cell_words) ≡ 0 + added_by n calls (R.start limit row_words cell_words)
+unfolding made_by R.start
+made_from_none n calls limit row_words cell_words = go (ltb n 0) refl
+  where
+    go : (b : Bool) → ltb n 0 ≡ b → elim b as (λ _. ℕ) [ true ↦ carried_in | false ↦ added_by n calls (R.start limit row_words cell_words) ] ≡ 0 + added_by n calls (R.start limit row_words cell_words)
+    go true e = absurd (omega (arith, ltb-true n 0 e))
+    go false e = omega arith
+
+none_before : (n limit row_words cell_words : ℕ) → length (R.start limit row_words cell_words).rows ≤ n
+unfolding R.start
+none_before n limit row_words cell_words = omega arith
+
 -- a list of calls
 module _ (limit : ℕ) (rows cells answers : List ℕ) (calls : List Call) (most : limit ≤ 4096) (fit : 4 * length calls ≤ length answers) where
   in_order : DerivationOrder (play_all calls (R.start limit (length rows) (length cells))).1.rows
   in_order = derivation_order (play_all_left calls (R.start limit (length rows) (length cells)) (start_good limit (length rows) (length cells))).good.order
+
+  made_words : (n : ℕ) → n < length (play_all calls (R.start limit (length rows) (length cells))).1.rows → row_word 18 (ask_all calls (start limit rows cells)).1.rows n ≡ made_by n calls (R.start limit (length rows) (length cells))
+  made_words n l =
+      let r = runs limit rows cells calls most in
+      r.holds.made n l ∙ r.added n (none_before n limit (length rows) (length cells)) l ∙ sym (made_from_none n calls limit (length rows) (length cells))
 
   played_words : AskedWords rows cells answers (played limit calls (play_all calls (R.start limit (length rows) (length cells))))
   unfolding written_over
@@ -115,6 +133,7 @@ module _ (limit : ℕ) (rows cells answers : List ℕ) (calls : List Call) (most
         each_answer = λ k a. each_answered _ k a r.says;
         table = table_told h in_order;
         memory = memory_told h;
+        made = made_words;
         stays = λ first others e. rw e (first_stays limit rows cells first others most);
         rows_length =
             let e = blocks_length h.words.rows_are in
@@ -126,7 +145,7 @@ module _ (limit : ℕ) (rows cells answers : List ℕ) (calls : List Call) (most
             let c = (played_counts limit calls (length rows) (length cells) most).cells in
             let d = mul-div-le (length cells) 8 in
             rw (h.words.cells_end, length-append, length-drop) (omega arith);
-        answers_length = let c = said_calls calls (start limit rows cells) in rw (length-append, length-drop) (omega arith);
+        answers_length = let c = said_calls 0 calls (start limit rows cells) in rw (length-append, length-drop) (omega arith);
         rows_stay = past h;
         cells_stay = past_cells h;
         answers_stay = λ i l. let c = said_words r.says in stays (four_words (ask_all calls (start limit rows cells)).0) answers i (omega arith);
@@ -153,13 +172,14 @@ none_first [] others s R C p q e = nothing_told s R C p q
 none_first (call ∷ first) others s R C p q e = let z : ◌≡◌ {A = ℕ} 0 1 = cc in absurd (omega arith)
 
 refused_words : (rows cells answers : List ℕ) (n place : ℕ) → AskedWords rows cells answers (refused_run n place)
-unfolding ask_all start R.start four_words written_over
+unfolding ask_from start R.start four_words written_over
 refused_words rows cells answers n place = record {
   row_count = refl;
   cell_count = refl;
   each_answer = λ k a m. absurd (no_answer m refl);
   table = nothing_told _ rows cells refl refl;
   memory = λ k before c. absurd (no_cell c refl);
+  made = λ n l. absurd (omega arith);
   stays = λ first others. none_first first others _ rows cells refl refl;
   rows_length = refl;
   cells_length = refl;

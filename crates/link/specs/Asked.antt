@@ -1,5 +1,5 @@
 -- The machine's run, from calls that were read: the cells of what is sent, each call, and its four answer words. Assumes nothing.
-use Rattle.std.specs.Prelude.{ℕ, ◌/◌, min, List, [], ◌∷◌, ◌++◌, Bool, true, false, length, drop}
+use Rattle.std.specs.Prelude.{ℕ, suc, ◌+◌, ◌*◌, ◌-◌, ◌/◌, min, List, [], ◌∷◌, ◌++◌, Bool, true, false, length, set, drop}
 use Rattle.ast.specs.Cells.{quote_of}
 use Rattle.producer.specs.Machine.{Machine, machine, new_state, fresh, Result, is, not, W, ◌>>=◌, make_universe, make_var, make_nat, make_zero, make_pi, make_lam, make_app, make_path, make_plam, make_papp, make_sigma, make_pair, make_fst, make_snd, make_i0, make_i1, make_dim, make_neg, make_meet, make_join, make_nil, make_cons}
 use Rattle.producer.specs.Callees.{Callees}
@@ -111,13 +111,25 @@ ask_counted false call w = ask_sized (size_call call) call w
 abbrev pub ask_call : Call → Machine → Said × Machine
 ask_call call w = ask_counted (lists_types call.code) call w
 
--- each call gets what the one before left
-unfoldable pub ask_all : List Call → Machine → List Said × Machine
-ask_all [] w = ([], w)
-ask_all (call ∷ calls) w =
+-- So many rows, from one on, were added by a call: their word 18 is its number.
+unfoldable pub marked : ℕ → List ℕ → (from call : ℕ) → List ℕ
+marked ℕ.zero R from call = R
+marked (ℕ.suc n) R from call = marked n (set R (from * 24 + 18) call) (suc from) call
+
+-- what a call leaves, of so many rows before it
+abbrev pub with_marks : (call before : ℕ) → Machine → Machine
+with_marks call before w = machine (marked (w.state.rows - before) w.rows before call) w.cells w.state
+
+-- Each call gets what the one before left. The first of them has a number, and the others go on from it.
+unfoldable pub ask_from : ℕ → List Call → Machine → List Said × Machine
+ask_from n [] w = ([], w)
+ask_from n (call ∷ calls) w =
     let (said, w') = ask_call call w in
-    let (saids, w'') = ask_all calls w' in
+    let (saids, w'') = ask_from (suc n) calls (with_marks n w.state.rows w') in
     (said ∷ saids, w'')
+
+abbrev pub ask_all : List Call → Machine → List Said × Machine
+ask_all calls w = ask_from 0 calls w
 
 -- from no rows and no cells, whatever the slices hold
 unfoldable pub start : ℕ → List ℕ → List ℕ → Machine

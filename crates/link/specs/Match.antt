@@ -265,7 +265,7 @@ module _ {o : Before} {xs : List Thing} {k n a b c d e : ℕ} {j : Judgment} (sp
   emitting {refs = refs} rule q = rw q.are (record { holds = λ w s i h. known_agrees (new_row (row_block rule (refs_of refs) k n a b c d e)) (choose dec_lt (length s.rows) s.row_room then push (record { rule = rule; refs = refs; judgment = j }) else refuse Refusal.rows) w s i h (new w s i h (dec_lt (length s.rows) s.row_room) (ltb w.state.rows w.state.rowroom) (rw h.counts (less (length s.rows) s.row_room))) })
     where
       new : (w : Machine) (s : State) → Extends xs s.cells → Holds o w s → (f : Dec (length s.rows < s.row_room)) (t : Bool) → t ≡ yes? f → Agree o xs Same (ifb t (is w.state.rows (add_row (row_block rule (refs_of refs) k n a b c d e) w)) (not Refusal.rows w)) ((choose f then push (record { rule = rule; refs = refs; judgment = j }) else refuse Refusal.rows) s)
-      new w s i h (yes l) true g = both_done {a = length s.rows} {b = w.state.rows} {s = with_row (record { rule = rule; refs = refs; judgment = j }) s} i (more_rows h (line (j_lift i spoken)) refl (no_row_children rule (refs_of refs) k n a b c d e) l) (rw h.counts)
+      new w s i h (yes l) true g = both_done {a = length s.rows} {b = w.state.rows} {s = with_row (record { rule = rule; refs = refs; judgment = j }) s} i (more_rows h (line (j_lift i spoken)) refl (no_row_children rule (refs_of refs) k n a b c d e) refl l) (rw h.counts)
       new w s i h (yes l) false g = let z : ◌≡◌ {A = ℕ} 0 1 = cc in absurd (omega arith)
       new w s i h (no l) true g = let z : ◌≡◌ {A = ℕ} 0 1 = cc in absurd (omega arith)
       new w s i h (no l) false g = both_refused i h

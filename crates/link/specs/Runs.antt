@@ -1,15 +1,16 @@
 -- What the answer words of a list of calls say of the walk's answers, and what state is left. That so it is is proved in proofs/Runs: `runs`.
-use Rattle.std.specs.Prelude.{ℕ, ◌≡◌, List, [], ◌∷◌}
-use Rattle.producer.specs.Machine.{Machine, Result}
+use Rattle.std.specs.Prelude.{ℕ, ◌+◌, ◌-◌, ◌≤◌, ◌<◌, ◌≡◌, List, [], ◌∷◌, length}
+use Rattle.producer.specs.Machine.{Machine, machine, Result}
 use Rattle.walk.specs.Syntax.{Term, quote}
 use Rattle.walk.specs.State.{State, Thing}
-use Rattle.walk.specs.Run.{no_result, a_level, a_term, Answer}
+use Rattle.walk.specs.Reader.{Call}
+use Rattle.walk.specs.Run.{no_result, a_level, a_term, Answer, added_by, play_all}
 use Rattle.walk.specs.Run as R
 use Rattle.order.specs.Bound.{Fit}
 use Rattle.link.specs.Lists.{Extends}
 use Rattle.link.specs.Things.{a_quote, Low}
 use Rattle.link.specs.Holds.{Before, Holds}
-use Rattle.link.specs.Asked.{Said}
+use Rattle.link.specs.Asked.{Said, marked}
 
 -- the result word: a level, the lowest cell with the quote of a term, or 0
 pub data Results (xs : List Thing) : ℕ → R.Result → Type 0 where
@@ -39,8 +40,24 @@ pub data AllSay (xs : List Thing) : List Said → List Answer → Type 0 where
   none_say : AllSay xs [] []
   says_on : {a : Said} {as' : List Said} {b : Answer} {bs : List Answer} → Says xs a b → AllSay xs as' bs → AllSay xs (a ∷ as') (b ∷ bs)
 
-pub record EndsRun (o : Before) (xs : List Thing) (x : List Said × Machine) (y : List Answer × State) : Type 0 where
-  pub extends : Extends xs y.1.cells
-  pub holds : Holds o x.1 y.1
-  pub fit : Fit y.1
-  pub says : AllSay y.1.cells x.0 y.0
+-- with these numbers in word 18 of the rows
+abbrev pub numbered : (ℕ → ℕ) → Before → Before
+numbered made o = record { rows = o.rows; cells = o.cells; made = made }
+
+-- the number of a call in so many rows, from one on
+pub record Marks (o : Before) (w : Machine) (s : State) (n from call : ℕ) : Type 0 where
+  pub made : ℕ → ℕ
+  pub holds : Holds (numbered made o) (machine (marked n w.rows from call) w.cells w.state) s
+  pub below : (k : ℕ) → k < from → made k ≡ o.made k
+  pub inside : (k : ℕ) → from ≤ k → k < from + n → made k ≡ call
+  pub above : (k : ℕ) → from + n ≤ k → made k ≡ o.made k
+
+-- what calls leave, the first of which has the number n: rows that were there keep theirs
+pub record EndsRun (o : Before) (s : State) (n : ℕ) (calls : List Call) (x : List Said × Machine) : Type 0 where
+  pub made : ℕ → ℕ
+  pub extends : Extends s.cells (play_all calls s).1.cells
+  pub holds : Holds (numbered made o) x.1 (play_all calls s).1
+  pub fit : Fit (play_all calls s).1
+  pub says : AllSay (play_all calls s).1.cells x.0 (play_all calls s).0
+  pub before : (k : ℕ) → k < length s.rows → made k ≡ o.made k
+  pub added : (k : ℕ) → length s.rows ≤ k → k < length (play_all calls s).1.rows → made k ≡ n + added_by k calls s

@@ -26,13 +26,13 @@ pub data Block (xs : List Thing) : Thing → List ℕ → Type 0 where
   plain : {k a b c q m n : ℕ} {t : Thing} → Shape xs k a b c t → Low q (show t) (t ∷ xs) → Block xs t (k ∷ a ∷ b ∷ c ∷ q ∷ 0 ∷ m ∷ n ∷ [])
   remembered : {d g t w row m n : ℕ} {g' : Context} {t' : Term} → Cell g (context g') xs → Cell t (term t') xs → Block xs (inference (key d g' t')) (40 ∷ d ∷ g ∷ t ∷ w ∷ row ∷ m ∷ n ∷ [])
 
--- a row with its children in the index
-abbrev pub row_words : ℕ → Refs → (kind count a b c d e m n o p : ℕ) → List ℕ
-row_words rule l kind count a b c d e m n o p = rule ∷ l.count ∷ cited l 0 ∷ cited l 1 ∷ cited l 2 ∷ cited l 3 ∷ cited l 4 ∷ cited l 5 ∷ cited l 6 ∷ cited l 7 ∷ cited l 8 ∷ cited l 9 ∷ count ∷ a ∷ b ∷ c ∷ d ∷ e ∷ 0 ∷ kind ∷ m ∷ n ∷ o ∷ p ∷ []
+-- a row with the number of a call, and with its children in the index
+abbrev pub row_words : ℕ → Refs → (kind count a b c d e made m n o p : ℕ) → List ℕ
+row_words rule l kind count a b c d e made m n o p = rule ∷ l.count ∷ cited l 0 ∷ cited l 1 ∷ cited l 2 ∷ cited l 3 ∷ cited l 4 ∷ cited l 5 ∷ cited l 6 ∷ cited l 7 ∷ cited l 8 ∷ cited l 9 ∷ count ∷ a ∷ b ∷ c ∷ d ∷ e ∷ made ∷ kind ∷ m ∷ n ∷ o ∷ p ∷ []
 
--- the words of a row
+-- the words of a row; the number of its call is any word
 pub data Line (xs : List Thing) (rs : List Row) : Row → List ℕ → Type 0 where
-  line : {kind count a b c d e m n o p : ℕ} {r : Row} → Spoken xs kind count a b c d e r.judgment → Line xs rs r (row_words r.rule (refs_of r.refs) kind count a b c d e m n o p)
+  line : {kind count a b c d e made m n o p : ℕ} {r : Row} → Spoken xs kind count a b c d e r.judgment → Line xs rs r (row_words r.rule (refs_of r.refs) kind count a b c d e made m n o p)
 
 abbrev pub Cells : List Thing → List ℕ → Type 0
 Cells = Blocks 8 Block
@@ -58,6 +58,10 @@ line_set {xs} h v rs r bs l = go (h % 4) (omega arith) l
     go (suc (suc zero)) i (line s) = line s
     go (suc (suc (suc zero))) i (line s) = line s
     go (suc (suc (suc (suc j)))) i (line s) = absurd (let z : ⊥ = omega arith in z)
+
+-- the number of a call that is set
+pub line_made : {xs : List Thing} (v : ℕ) (rs : List Row) (r : Row) (bs : List ℕ) → Line xs rs r bs → Line xs rs r (set bs 18 v)
+line_made v rs r bs (line s) = line s
 
 abbrev pub cell_place : ℕ → ℕ
 cell_place h = 6 + h % 2

@@ -1,13 +1,13 @@
 -- What a run over words, from bytes, answers and leaves, beside the definition of the run. That it does, and that demand 3 holds of its table,
 -- is proved in proofs/Words: `words`.
-use Rattle.std.specs.Prelude.{ℕ, ◌*◌, ◌≤◌, ◌≡◌, List, ◌++◌, length, get_or}
+use Rattle.std.specs.Prelude.{ℕ, ◌*◌, ◌≤◌, ◌<◌, ◌≡◌, List, ◌++◌, length, get_or}
 use Rattle.producer.specs.Machine.{Machine}
 use Rattle.walk.specs.Reader.{Call}
-use Rattle.walk.specs.Run.{Answer, Ran, play_all}
+use Rattle.walk.specs.Run.{Answer, Ran, play_all, made_by}
 use Rattle.walk.specs.Run as R
 use Rattle.link.specs.Lists.{stays}
 use Rattle.link.specs.Asked.{ask_all, start, four_words, written_over}
-use Rattle.link.specs.Table.{MemoryWords, TableWords, AnswerWords, AnswerAt}
+use Rattle.link.specs.Table.{row_word, MemoryWords, TableWords, AnswerWords, AnswerAt}
 
 -- what the machine leaves, in slices that held rows, cells and answers before; A: the answers after it
 pub record RanWords (rows cells answers : List ℕ) (ran : Ran) (w : Machine) (A : List ℕ) : Type 0 where
@@ -19,6 +19,8 @@ pub record RanWords (rows cells answers : List ℕ) (ran : Ran) (w : Machine) (A
   -- each row's words and each cell's, and the table that they are read back as; what is remembered
   pub table : TableWords ran.last w.rows w.cells
   pub memory : MemoryWords ran.last w.cells
+  -- the call that made each row
+  pub made : (n : ℕ) → n < length ran.last.rows → row_word 18 w.rows n ≡ made_by n ran.calls (R.start ran.limit (length rows) (length cells))
   -- what the first calls left is there
   pub stays : (first others : List Call) → ran.calls ≡ first ++ others → TableWords (play_all first (R.start ran.limit (length rows) (length cells))).1 w.rows w.cells
   -- the slices keep their lengths, and the words past those used stay

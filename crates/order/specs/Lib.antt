@@ -12,4 +12,5 @@ pub mod Refusals
 pub mod Spot
 pub mod Counts
 pub mod Theorem
+pub mod Made
 pub mod Call

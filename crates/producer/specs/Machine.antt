@@ -1,6 +1,6 @@
 -- The machine over words, and its steps: what a method of `State` is proved equal to. A term is the number of its cell.
--- A row: 24 words as docs/FORMAT.md has them; its first working word is free, the second is the judgment's kind, the last four are the
--- index's. Assumes nothing.
+-- A row: 24 words as docs/FORMAT.md has them; the number of its call is left 0 here, the next is the judgment's kind, the last four are
+-- the index's. Assumes nothing.
 use Rattle.std.specs.Prelude.{ℕ, ◌+◌, ◌*◌, ◌-◌, ◌%◌, ◌/◌, Bool, true, false, List, [], ◌∷◌, get_or, ltb, eqb, Some, None}
 use Rattle.std.proofs.Math.Option.{Option, none, some}
 use Rattle.std.proofs.lemmas.List.Edits.{sets}

@@ -1,5 +1,5 @@
-// Rows: 24 words each. Rule, cited rows (count, ten places), arguments (count, five places), six working words:
-// 18 stays 0, 19 is the judgment's kind, 20 to 23 are the index's. Nothing but `find_row` and `link_row` knows how a known judgment is found.
+// Rows: 24 words each. Rule, cited rows (count, ten places), arguments (count, five places), the number of the
+// call, which is 0 until that ends, and five working words: the judgment's kind, and four of the index. Nothing but `find_row` and `link_row` knows how a known judgment is found.
 ghost use Rattle.std.specs.Prelude.{◌≡◌, ◌*◌};
 ghost use Rattle.std.proofs.lemmas.List.Edits.{sets};
 ghost use Rattle.producer.specs.Answers.{end};

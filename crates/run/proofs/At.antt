@@ -4,6 +4,7 @@ use mathlib.Core.Path.{◌≡◌, refl}
 use native.Mathlib.Omega.{arith}
 use mathlib.Core.List.{List, [], ◌∷◌}
 use lib.Seq.{sets}
+use lib.ListN.{set}
 use native.Mathlib.Numerals.{sub-one}
 use Rattle.walk.specs.Refusal as Refusal
 use Rattle.ast.specs.Words.{up}
@@ -11,6 +12,7 @@ use Rattle.std.specs.Prelude.{Ok, Err}
 use Rattle.producer.specs.Answers.{Answer, end}
 use Rattle.producer.specs.Machine.{Machine, give, stop}
 pub use Rattle.producer.proofs.At.{residual, node}
+use Rattle.link.specs.Asked.{marked, with_marks}
 use Rattle.run.specs.declared.entry.Spot.{Spot}
 use Rattle.run.specs.Run.{Told, told, turn_end, answered_of, turned, played}
 use Rattle.run.specs.Build.{built_body, built, scoped, scoped_body}
@@ -39,8 +41,20 @@ unfolding told end answered_of
 told_end (Ok (s, (x, y))) next R C = refl
 told_end (Err e) next R C = refl
 
+-- rows that get the number of a call: one more of them, and none
+pub marked_next : (to i : ℕ) (R : List ℕ) (call : ℕ) → i < to → marked (to - i) R i call ≡ marked (to - (i + 1)) (set R (i * 24 + 18) call) (i + 1) call
+unfolding marked
+marked_next to i R call l =
+    let e : to - i ≡ suc (to - (i + 1)) = omega arith in
+    let f : i + 1 ≡ suc i = omega arith in
+    rw (e, f)
+
+pub marked_none : (to i : ℕ) (R : List ℕ) (call : ℕ) → to ≤ i → marked (to - i) R i call ≡ R
+unfolding marked
+marked_none to i R call l = let e : to - i ≡ 0 = omega arith in rw e
+
 -- one call played, and none
-pub played_turn : (left room : ℕ) (bytes : List ℕ) (spot : Spot) (done : ℕ) (w : Machine) (A : List ℕ) (t : Told) (now : ℕ) → now ≡ room → t ≡ turned now bytes spot w → 0 < left → played left room bytes spot done w A ≡ played (left - 1) room bytes t.next (up done) t.left (sets A (done * 4) (t.number ∷ t.row ∷ t.result ∷ t.deepest ∷ []))
+pub played_turn : (left room : ℕ) (bytes : List ℕ) (spot : Spot) (done : ℕ) (w : Machine) (A : List ℕ) (t : Told) (now : ℕ) → now ≡ room → t ≡ turned now bytes spot w → 0 < left → played left room bytes spot done w A ≡ played (left - 1) room bytes t.next (up done) (with_marks done w.state.rows t.left) (sets A (done * 4) (t.number ∷ t.row ∷ t.result ∷ t.deepest ∷ []))
 unfolding played
 played_turn zero room bytes spot done w A t now q e h = absurd (omega arith)
 played_turn (suc left) room bytes spot done w A t now q e h = rw (e, q, sub-one)
@@ -51,7 +65,7 @@ played_none zero room bytes spot done w A h = refl
 played_none (suc left) room bytes spot done w A h = absurd (omega arith)
 
 -- one of so many calls is played
-pub played_next : (calls i room : ℕ) (bytes : List ℕ) (spot : Spot) (w : Machine) (A : List ℕ) (t : Told) (now : ℕ) → calls < 4294967296 → now ≡ room → t ≡ turned now bytes spot w → i < calls → played (calls - i) room bytes spot i w A ≡ played (calls - (i + 1)) room bytes t.next (i + 1) t.left (sets A (i * 4) (t.number ∷ t.row ∷ t.result ∷ t.deepest ∷ []))
+pub played_next : (calls i room : ℕ) (bytes : List ℕ) (spot : Spot) (w : Machine) (A : List ℕ) (t : Told) (now : ℕ) → calls < 4294967296 → now ≡ room → t ≡ turned now bytes spot w → i < calls → played (calls - i) room bytes spot i w A ≡ played (calls - (i + 1)) room bytes t.next (i + 1) (with_marks i w.state.rows t.left) (sets A (i * 4) (t.number ∷ t.row ∷ t.result ∷ t.deepest ∷ []))
 unfolding up
 played_next calls i room bytes spot w A t now b q e h =
     let m : (i + 1) % 4294967296 ≡ i + 1 = omega arith in

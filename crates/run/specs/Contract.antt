@@ -1,15 +1,15 @@
 -- What the entry promises of every run of bytes and all three slices: the run of the definition (`walked`), in words.
 -- Which cell has which number is in `link`'s Things; how words are read, and what the words of an answer, a row and a cell are, in its
 -- Table; demand 3's terms are in `walk`'s Demand. Nothing here speaks of how the entry works; `run_is_walked` of Same.Entry proves it.
-use Rattle.std.specs.Prelude.{ℕ, ◌*◌, ◌≤◌, ◌≡◌, List, ◌++◌, length, get_or}
+use Rattle.std.specs.Prelude.{ℕ, ◌*◌, ◌≤◌, ◌<◌, ◌≡◌, List, ◌++◌, length, get_or}
 use Rattle.std.proofs.Math.Option.{some}
 use Rattle.walk.specs.Judgment.{Judgment}
 use Rattle.walk.specs.State.{Row}
 use Rattle.walk.specs.Reader.{Call}
-use Rattle.walk.specs.Run.{Answer, play_all, start}
+use Rattle.walk.specs.Run.{Answer, play_all, made_by, start}
 use Rattle.walk.specs.Run as W
 use Rattle.walk.specs.Demand.{At, DerivationOrder, Distinct, Derives, cut, Extends}
-use Rattle.link.specs.Table.{table_at, MemoryWords, TableWords, AnswerAt, AnswerWords, CallAt, States}
+use Rattle.link.specs.Table.{row_word, table_at, MemoryWords, TableWords, AnswerAt, AnswerWords, CallAt, States}
 use Rattle.ran.specs.declared.Ran.{Ran}
 
 -- the definition's run of these bytes, in slices of these lengths
@@ -46,9 +46,11 @@ pub record Runs (bytes rows cells answers : List ℕ) (r : Ran) (rows' cells' an
   pub answer_count : length (walked bytes rows cells answers).answers ≡ r.calls
   pub each_answer : (k : ℕ) (a : Answer) → AnswerAt a k (walked bytes rows cells answers).answers → AnswerWords (walked bytes rows cells answers).last.cells answers' k a
   -- the table: words 0 to 17 of each row, words 0 to 3 of each cell, and what they are read back as; of a cell that holds a remembered
-  -- inference words 4 and 5 as well. The other words of rows and cells are working words: any word
+  -- inference words 4 and 5 as well; word 18 of each row is the number of the call that made it. The other words of rows and cells are
+  -- working words: any word
   pub table : TableWords (walked bytes rows cells answers).last rows' cells'
   pub memory : MemoryWords (walked bytes rows cells answers).last cells'
+  pub made : (n : ℕ) → n < r.rows → row_word 18 rows' n ≡ made_by n (walked bytes rows cells answers).calls (start (walked bytes rows cells answers).limit (length rows) (length cells))
   pub derived : Derived bytes rows cells answers r rows' cells' answers'
   -- what is used lies in the slices; words past it stay
   pub rows_fit : r.rows * 24 ≤ length rows'

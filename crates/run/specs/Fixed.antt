@@ -5,7 +5,7 @@ use Rattle.std.proofs.Common.{sym, ap, ◌∙◌, subst, arith, add-zero}
 use Rattle.std.proofs.Math.Option.{Option, some}
 use Rattle.std.proofs.Math.Decide.{dec_lt}
 use Rattle.walk.specs.State.{Row, Thing, inference, Key}
-use Rattle.walk.specs.Run.{Answer}
+use Rattle.walk.specs.Run.{Answer, made_by}
 use Rattle.walk.specs.Run as W
 use Rattle.walk.specs.Demand.{RowAt, newest, older}
 use Rattle.link.specs.Lists.{same, more}
@@ -18,7 +18,7 @@ use Rattle.run.specs.Contract.{walked, numbers_of, Runs}
 pub record SameWords (things : List Thing) (r r₂ : Ran) (rows' cells' answers' rows₂' cells₂' answers₂' : List ℕ) : Type 0 where
   pub numbers : r ≡ r₂
   pub answers : (i k : ℕ) → i < r.calls → k < 4 → get_or answers' (i * 4 + k) 0 ≡ get_or answers₂' (i * 4 + k) 0
-  pub rows : (i k : ℕ) → i < r.rows → k < 18 → get_or rows' (i * 24 + k) 0 ≡ get_or rows₂' (i * 24 + k) 0
+  pub rows : (i k : ℕ) → i < r.rows → k < 19 → get_or rows' (i * 24 + k) 0 ≡ get_or rows₂' (i * 24 + k) 0
   pub cells : (i k : ℕ) → i < r.cells → k < 4 → get_or cells' (i * 8 + k) 0 ≡ get_or cells₂' (i * 8 + k) 0
   -- the type and the row of a remembered inference
   pub memory : (key : Key) (before : List Thing) → Counted (inference key) before things → (part 4 cells' (length before) ≡ part 4 cells₂' (length before)) × (part 5 cells' (length before) ≡ part 5 cells₂' (length before))
@@ -93,26 +93,35 @@ cells_same {xs} {C} {D} i k l m h g =
 two_same : {a b c d : ℕ} → (some a ∷ some b ∷ []) ≡ (some c ∷ some d ∷ []) → (a ≡ c) × (b ≡ d)
 two_same {a} {b} {c} {d} e = let p : a ≡ c = cc in let q : b ≡ d = cc in (p, q)
 
--- what a run leaves, by the definition's run alone
-record Left (ran : W.Ran) (r : Ran) (rows' cells' answers' : List ℕ) : Type 0 where
+-- and word 18
+words_same : {xs : List Thing} {R S : List ℕ} {i : ℕ} {r : Row} (k : ℕ) → k < 19 → RowWords xs R i r → RowWords xs S i r → row_word 18 R i ≡ row_word 18 S i → row_word k R i ≡ row_word k S i
+words_same {R = R} {S = S} {i = i} k l h g e = go (dec_lt k 18)
+  where
+    go : Dec (k < 18) → row_word k R i ≡ row_word k S i
+    go (yes m) = row_same k m h g
+    go (no m) = subst (λ (j : ℕ). row_word j R i ≡ row_word j S i) (omega arith) e
+
+-- what a run leaves, by the definition's run alone, in slices of so many words
+record Left (row_words cell_words : ℕ) (ran : W.Ran) (r : Ran) (rows' cells' answers' : List ℕ) : Type 0 where
   numbers : r ≡ numbers_of ran
   count : length ran.answers ≡ r.calls
   each_answer : (k : ℕ) (a : Answer) → AnswerAt a k ran.answers → AnswerWords ran.last.cells answers' k a
   table : TableWords ran.last rows' cells'
   memory : MemoryWords ran.last cells'
+  made : (n : ℕ) → n < r.rows → row_word 18 rows' n ≡ made_by n ran.calls (W.start ran.limit row_words cell_words)
 
-left : {bytes rows cells answers : List ℕ} {r : Ran} {rows' cells' answers' : List ℕ} → Runs bytes rows cells answers r rows' cells' answers' → Left (walked bytes rows cells answers) r rows' cells' answers'
-left h = record { numbers = h.numbers; count = h.answer_count; each_answer = h.each_answer; table = h.table; memory = h.memory }
+left : {bytes rows cells answers : List ℕ} {r : Ran} {rows' cells' answers' : List ℕ} → Runs bytes rows cells answers r rows' cells' answers' → Left (length rows) (length cells) (walked bytes rows cells answers) r rows' cells' answers'
+left h = record { numbers = h.numbers; count = h.answer_count; each_answer = h.each_answer; table = h.table; memory = h.memory; made = h.made }
 
-both_left : {ran : W.Ran} {r r₂ : Ran} {rows' cells' answers' rows₂' cells₂' answers₂' : List ℕ} → Left ran r rows' cells' answers' → Left ran r₂ rows₂' cells₂' answers₂' → SameWords ran.last.cells r r₂ rows' cells' answers' rows₂' cells₂' answers₂'
-both_left {ran} {r} h g = record {
+both_left : {row_words cell_words : ℕ} {ran : W.Ran} {r r₂ : Ran} {rows' cells' answers' rows₂' cells₂' answers₂' : List ℕ} → Left row_words cell_words ran r rows' cells' answers' → Left row_words cell_words ran r₂ rows₂' cells₂' answers₂' → SameWords ran.last.cells r r₂ rows' cells' answers' rows₂' cells₂' answers₂'
+both_left {ran = ran} {r = r} h g = record {
   numbers = h.numbers ∙ sym g.numbers;
   answers = λ i k l m.
       let (a, at) = answer_of ran.answers i (subst (λ (n : ℕ). i < n) (sym h.count) l) in
       answer_same k m (h.each_answer i a at) (g.each_answer i a at);
   rows = λ i k l m.
       let (row, at) = row_of ran.last.rows i (subst (λ (n : ℕ). i < n) (ap (λ (x : Ran). x.rows) h.numbers) l) in
-      row_same k m (h.table.each_row i row at) (g.table.each_row i row at);
+      words_same k m (h.table.each_row i row at) (g.table.each_row i row at) (h.made i l ∙ sym (g.made i (subst (λ (x : Ran). i < x.rows) (h.numbers ∙ sym g.numbers) l)));
   cells = λ i k l m. cells_same i k (subst (λ (n : ℕ). i < n) (ap (λ (x : Ran). x.cells) h.numbers) l) m h.table.cells g.table.cells;
   memory = λ key before e. two_same (h.memory key before e ∙ sym (g.memory key before e));
 }
@@ -121,4 +130,6 @@ both_left {ran} {r} h g = record {
 pub fixed : {bytes rows cells answers rows₂ cells₂ answers₂ : List ℕ} {r r₂ : Ran} {rows' cells' answers' rows₂' cells₂' answers₂' : List ℕ} → length rows ≡ length rows₂ → length cells ≡ length cells₂ → length answers ≡ length answers₂ → Runs bytes rows cells answers r rows' cells' answers' → Runs bytes rows₂ cells₂ answers₂ r₂ rows₂' cells₂' answers₂' → SameWords (walked bytes rows cells answers).last.cells r r₂ rows' cells' answers' rows₂' cells₂' answers₂'
 fixed {bytes} {rows} {cells} {answers} {rows₂} {cells₂} {answers₂} {r₂ = r₂} {rows₂' = rows₂'} {cells₂' = cells₂'} {answers₂' = answers₂'} p q s h g =
     let e : walked bytes rows₂ cells₂ answers₂ ≡ walked bytes rows cells answers = rw (p, q, s) in
-    both_left (left h) (subst (λ (ran : W.Ran). Left ran r₂ rows₂' cells₂' answers₂') e (left g))
+    let x = subst (λ (ran : W.Ran). Left (length rows₂) (length cells₂) ran r₂ rows₂' cells₂' answers₂') e (left g) in
+    let y = subst (λ (n : ℕ). Left n (length cells₂) (walked bytes rows cells answers) r₂ rows₂' cells₂' answers₂') (sym p) x in
+    both_left (left h) (subst (λ (n : ℕ). Left (length rows) n (walked bytes rows cells answers) r₂ rows₂' cells₂' answers₂') (sym q) y)

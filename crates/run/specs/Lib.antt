@@ -8,3 +8,4 @@ pub mod Fixed
 pub mod Reads
 pub mod Rejects
 pub mod RejectsMany
+pub mod RejectsMakers

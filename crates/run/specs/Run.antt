@@ -20,6 +20,7 @@ use Rattle.syntax.specs.declared.sent.Checks.{Checks}
 use Rattle.syntax.specs.declared.sent.Sent.{Sent}
 use Rattle.syntax.specs.Told.{term_at, call_at, code_number, size_in, size_draft_in, scanned}
 use Rattle.syntax.specs.Sent.{sent_in}
+use Rattle.link.specs.Asked.{with_marks}
 use Rattle.ran.specs.declared.Ran.{Ran}
 use Rattle.run.specs.declared.entry.Plan.{Plan}
 use Rattle.run.specs.declared.entry.Spot.{Spot}
@@ -124,7 +125,7 @@ unfoldable pub played : (left room : ℕ) → List ℕ → Spot → ℕ → Mach
 played zero room bytes spot done w A = record { left = w; answers = A }
 played (suc left) room bytes spot done w A =
     let t = turned room bytes spot w in
-    played left room bytes t.next (up done) t.left (sets A (done * 4) (t.number ∷ t.row ∷ t.result ∷ t.deepest ∷ []))
+    played left room bytes t.next (up done) (with_marks done w.state.rows t.left) (sets A (done * 4) (t.number ∷ t.row ∷ t.result ∷ t.deepest ∷ []))
 
 -- the run's answer with the slices after it
 pub record Ended : Type 0 where

@@ -1,7 +1,8 @@
 // The entry: a run of bytes over the three lent slices. A run that is refused as a whole changes nothing; words past the used ones stay.
-ghost use Rattle.std.specs.Prelude.{◌≡◌, ◌*◌, [], ◌∷◌, length};
+ghost use Rattle.std.specs.Prelude.{◌≡◌, ◌*◌, ◌-◌, [], ◌∷◌, length};
 ghost use Rattle.std.proofs.lemmas.List.Edits.{sets};
 ghost use Rattle.ast.specs.Refusals.{refusal_number};
+ghost use Rattle.link.specs.Asked.{marked};
 ghost use Rattle.producer.specs.Machine.{machine};
 ghost use Rattle.run.specs.Contract.{Runs};
 ghost use Rattle.run.specs.Run.{low_of, at_most, started, first_spot, spot_after, refused_of, answered_of, turn_end, planned_alone, planned_type, planned_many, planned, turned, play_end, played, refused_run, end_run, run_of};
@@ -9,7 +10,7 @@ ghost use Rattle.run.specs.Run.{low_of, at_most, started, first_spot, spot_after
 use crate::build::byte;
 use crate::call::call;
 use ast::refusals::Refusal;
-use ast::words::put_all;
+use ast::words::{put, put_all};
 use producer::State;
 use producer::answers::{Answer, Refused};
 use ran::Ran;
@@ -227,6 +228,15 @@ fn put_answer(answers: &mut [u32], i: u32, number: u32, row: u32, res: u32, deep
     put_all(answers, (i as usize) * 4, &[number, row, res, deepest]);
 }
 
+// The rows from `from` up to `to` were added by a call: their word 18 is its number.
+fn mark(rows: &mut [u32], from: u32, to: u32, call: u32)
+    ensures { rows.new ≡ marked (to - from) rows.old from call }
+{
+    for i in from..to {
+        put(rows, (i as usize) * 24 + 18, call);
+    }
+}
+
 // Plays so many calls.
 #[tactic(auto, unfolding(crate::specs::Run::played, crate::proofs::Steps::steps))]
 fn play(
@@ -245,6 +255,7 @@ fn play(
     for i in 0..calls {
         let turn = step(s, bytes, spot, stack, rows, cells);
         put_answer(answers, i, turn.number, turn.row, turn.result, turn.deepest);
+        mark(rows, s.rows, turn.state.rows, i);
         s = turn.state;
         spot = turn.next;
     }

@@ -1,5 +1,5 @@
 -- A run: its bytes and the lengths of the three slices in, its own answer, the answers of its calls and the last state out.
-use Rattle.std.specs.Prelude.{ℕ, ◌+◌, ◌*◌, ◌/◌, min, List, [], ◌∷◌, Bool, true, false, ◌||◌, ltb, length, get_or}
+use Rattle.std.specs.Prelude.{ℕ, ◌+◌, ◌*◌, ◌/◌, min, suc, List, [], ◌∷◌, Bool, true, false, ◌||◌, ltb, length, get_or}
 use Rattle.std.proofs.Math.Decide.{ℕ_discrete}
 use Rattle.walk.specs.Syntax.{Term, Nat, Context, Nil, Cons}
 use Rattle.walk.specs.Refusal as Refusal
@@ -70,6 +70,20 @@ play_all (call ∷ calls) s =
     let (answer, s') = play call s in
     let (answers, s'') = play_all calls s' in
     (answer ∷ answers, s'')
+
+-- which call made a row
+
+-- The number of the call after which the table first has row n: calls are numbered from 0, refused ones too.
+unfoldable pub added_by : ℕ → List Call → State → ℕ
+added_by n [] s = 0
+added_by n (call ∷ calls) s = elim (ltb n (length (play call s).1.rows)) [ true ↦ 0 | false ↦ suc (added_by n calls (play call s).1) ]
+
+-- of a row that is there before the first call
+abbrev pub carried_in : ℕ
+carried_in = 4294967295
+
+unfoldable pub made_by : ℕ → List Call → State → ℕ
+made_by n calls s = elim (ltb n (length s.rows)) [ true ↦ carried_in | false ↦ added_by n calls s ]
 
 -- the run
 

@@ -13,10 +13,10 @@ pub fn ends(bytes: &[u8], most: usize) -> Vec<usize> {
 }
 
 /// An entry of each slice: its name, how many words it has, and how many of
-/// them, from the first on, later calls leave as they are. A row's last six are
+/// them, from the first on, later calls leave as they are. A row's last five are
 /// working words, a cell's last four what is remembered and the index's.
 const ENTRIES: [(&str, usize, usize); 3] =
-    [("row", ROW, 18), ("cell", CELL, 4), ("answer", ANSWER, ANSWER)];
+    [("row", ROW, 19), ("cell", CELL, 4), ("answer", ANSWER, ANSWER)];
 
 /// The used words of the slices: rows, cells, answers.
 #[derive(Default)]

@@ -163,6 +163,10 @@ fn row(left: &Left, ran: &Ran, quotes: &Quotes, i: usize) -> Result<(), Differen
     want(words[1..12] == cited, || {
         format!("row {i} cites {:?}, wanted {cited:?} (how many, then which)", &words[1..12])
     })?;
+    let made = wanted.made as u32;
+    want(words[18] == made, || {
+        format!("row {i} was added by call {}, wanted {made}", words[18])
+    })?;
     let Sexp::List(judgment) = &wanted.judgment else {
         return Err(format!("row {i}: the oracle's judgment is an atom"));
     };

@@ -13,7 +13,7 @@ pub fn write(out: &mut String, ran: &Ran) -> fmt::Result {
         call(out, answer)?;
     }
     writeln!(out, "row rule refs judgment")?;
-    for (i, Row { rule, refs, judgment }) in ran.rows.iter().enumerate() {
+    for (i, Row { rule, refs, judgment, .. }) in ran.rows.iter().enumerate() {
         writeln!(out, "{i} {rule} {} {judgment}", cited(refs))?;
     }
     writeln!(out, "rows cells repeats\n{} {} {}", ran.rows.len(), ran.cells, repeats(ran))

@@ -56,6 +56,8 @@ pub struct Row {
     pub rule: String,
     pub refs: Vec<usize>,
     pub judgment: Sexp,
+    /// The call that added it: as many calls left a table without it.
+    pub made: usize,
 }
 
 /// What a run leaves. Where its own number is not 0, the rest is empty.
@@ -92,13 +94,20 @@ pub fn play(bytes: &[u8], slices: Slices, options: &Options) -> Option<Ran> {
     }
     let row_room = MAX_ROWS.min(slices.rows as usize / 24);
     let mut player = Player::new(limit, row_room, slices.cells / 8, options);
-    let answers = calls.iter().map(|call| player.answer(call)).collect::<Option<_>>()?;
+    let mut counts = Vec::new();
+    let mut answer = |call| {
+        let answer = player.answer(call);
+        counts.push(player.row_count());
+        answer
+    };
+    let answers = calls.iter().map(&mut answer).collect::<Option<_>>()?;
     let (cells, mut nodes, mut remembered) = (player.cells(), Vec::new(), Vec::new());
     if options.counting {
         remembered = player.remembered();
         nodes = player.nodes();
     }
-    Some(Ran { number: 0, place: 0, cells, answers, rows: player.rows(), nodes, remembered })
+    let rows = player.rows(|row| counts.partition_point(|count| *count <= row));
+    Some(Ran { number: 0, place: 0, cells, answers, rows, nodes, remembered })
 }
 
 /// Runs `f` on a stack as large as the source's own, where 4,096 nested

@@ -10,7 +10,7 @@ use Rattle.walk.specs.Demand.{At, here, there, Distinct, cut, Stated, AllStated,
 use Rattle.std.proofs.Math.Nat.{mul-div-le}
 use Rattle.order.specs.Cases.{run_cases}
 use Rattle.order.specs.Counts.{run_counts}
-use Rattle.link.specs.Asked.{ask_all, four_words, written_over}
+use Rattle.link.specs.Asked.{ask_from, ask_all, four_words, written_over}
 use Rattle.link.specs.Asked as L
 use Rattle.link.specs.Table.{CellsWords, AnswerAt, this_answer, later_answer, AnswerWords, CallAt, this_call, later_call, States}
 use Rattle.link.proofs.Back.{names}
@@ -96,13 +96,14 @@ module _ (bytes rows cells answers : List ℕ) where
   }
 
   ended_runs : AskedWords rows cells answers (walked bytes rows cells answers) → Demand3 (length rows) (length cells) (walked bytes rows cells answers) → Runs bytes rows cells answers (numbers_of (walked bytes rows cells answers)) (ended (walked bytes rows cells answers) rows cells answers).rows (ended (walked bytes rows cells answers) rows cells answers).cells (ended (walked bytes rows cells answers) rows cells answers).answers
-  unfolding ask_all L.start four_words written_over
+  unfolding ask_from L.start four_words written_over
   ended_runs a d = record {
     numbers = refl;
     answer_count = counted;
     each_answer = a.each_answer;
     table = a.table;
     memory = a.memory;
+    made = a.made;
     derived = derived_words a d;
     rows_fit = omega (arith, a.rows_length, d.held);
     cells_fit = let c = (run_counts (length rows) (length cells) (length answers) bytes).cells in let m = mul-div-le (length cells) 8 in omega (arith, a.cells_length);

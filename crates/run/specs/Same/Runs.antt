@@ -25,7 +25,7 @@ use Rattle.syntax.specs.Kinds.{code_is}
 use Rattle.syntax.specs.Ends.{run_fault}
 use Rattle.syntax.specs.Calls.{true_false, TermsAt, no_terms, next_term, CallAt, SentAt, CallsAt, no_more, next_call, few_calls, RunIs, run_is as read_is}
 use Rattle.link.specs.Lists.{written}
-use Rattle.link.specs.Asked.{Said, lowest_of, ask, ask_sized, ask_counted, ask_call, ask_all, afresh, start, four_words, written_over}
+use Rattle.link.specs.Asked.{Said, lowest_of, ask, ask_sized, ask_counted, ask_call, with_marks, ask_from, ask_all, afresh, start, four_words, written_over}
 use Rattle.link.specs.Asked as L
 use Rattle.link.proofs.Words.{said_calls}
 use Rattle.run.specs.Call.{row_alone, row_first, row_quoted, called}
@@ -115,19 +115,20 @@ module _ (bytes : List ℕ) (short : length bytes ≤ 65536) where
 
   -- all of them
   abbrev Plays : List Call → Spot → ℕ → Machine → List ℕ → Type 0
-  Plays calls spot done w A = played (length calls) 131073 bytes spot done w A ≡ record { left = (ask_all calls w).1; answers = sets A (done * 4) (four_words (ask_all calls w).0) }
+  Plays calls spot done w A = played (length calls) 131073 bytes spot done w A ≡ record { left = (ask_from done calls w).1; answers = sets A (done * 4) (four_words (ask_from done calls w).0) }
 
-  one_more : (left : ℕ) (spot : Spot) (done : ℕ) (w : Machine) (A : List ℕ) (t : Told) → t ≡ turned 131073 bytes spot w → played (suc left) 131073 bytes spot done w A ≡ played left 131073 bytes t.next (up done) t.left (sets A (done * 4) (t.number ∷ t.row ∷ t.result ∷ t.deepest ∷ []))
+  one_more : (left : ℕ) (spot : Spot) (done : ℕ) (w : Machine) (A : List ℕ) (t : Told) → t ≡ turned 131073 bytes spot w → played (suc left) 131073 bytes spot done w A ≡ played left 131073 bytes t.next (up done) (with_marks done w.state.rows t.left) (sets A (done * 4) (t.number ∷ t.row ∷ t.result ∷ t.deepest ∷ []))
   unfolding played
   one_more left spot done w A t e = rw e
 
   -- one, and then the others
   then_plays : (call : Call) (calls : List Call) (spot next : Spot) (done : ℕ) → done + length (call ∷ calls) ≤ 65536 → (w : Machine) (A : List ℕ) → turned 131073 bytes spot w ≡ told_of (ask_call call w) next → ((w : Machine) (A : List ℕ) → Plays calls next (done + 1) w A) → Plays (call ∷ calls) spot done w A
-  unfolding ask_all four_words
+  unfolding ask_from four_words
   then_plays call calls spot next done l w A e h =
       let a = ask_call call w in
       let k : (done + 1) * 4 ≡ suc (suc (suc (suc (done * 4)))) = omega arith in
-      one_more (length calls) spot done w A (told_of a next) (sym e) ∙ rw (up_is done (omega arith)) (rw k at (h a.1 (sets A (done * 4) (a.0.number ∷ a.0.row ∷ a.0.result ∷ a.0.deepest ∷ []))))
+      let n : done + 1 ≡ suc done = omega arith in
+      one_more (length calls) spot done w A (told_of a next) (sym e) ∙ rw (up_is done (omega arith), n) (rw (k, n) at (h (with_marks done w.state.rows a.1) (sets A (done * 4) (a.0.number ∷ a.0.row ∷ a.0.result ∷ a.0.deepest ∷ []))))
 
   -- where types are still to be checked
   draft_turn : (at ty n : ℕ) (w : Machine) → turned 131073 bytes (record { at = at; ty = ty; left = suc n }) w ≡ turned_as (planned_type 131073 bytes at ty (suc n)) bytes at w
@@ -206,7 +207,7 @@ module _ (bytes : List ℕ) (short : length bytes ≤ 65536) where
           go false q l = one_plays q l
 
   played_is : {at : ℕ} {sents : List Sent} → CallsAt bytes at sents → (done : ℕ) → done + length (all_calls sents) ≤ 65536 → (w : Machine) (A : List ℕ) → Plays (all_calls sents) (by_itself at) done w A
-  unfolding all_calls played ask_all four_words
+  unfolding all_calls played ask_from four_words
   played_is (no_more e) done l w A = refl
   played_is (next_call {at = at} {next = next} {sent = sent} {others = others} S c) done l w A = sent_plays at sent next S (all_calls others) (λ done l w A. played_is c done l w A) done w A l
 
@@ -241,7 +242,7 @@ ended ran rows cells answers =
 module _ (bytes rows cells answers : List ℕ) where
   -- refused as a whole
   refused_is : (n place : ℕ) → place < 4294967296 → end_run (refused_run n place) rows cells answers ≡ ended (R.refused_run n place) rows cells answers
-  unfolding refused_run ask_all start four_words written_over
+  unfolding refused_run ask_from start four_words written_over
   refused_is n place l = rw (low_is place l)
 
   -- four words for each call, or not
@@ -268,7 +269,7 @@ module _ (bytes rows cells answers : List ℕ) where
     unfolding ended_read written_over
     all_played l =
         let few = few_read in
-        let n = said_calls calls (start limit rows cells) in
+        let n = said_calls 0 calls (start limit rows cells) in
         rw (low_is (length calls) (omega arith), started_is limit rows cells I.header.high, calls_played, written [] (four_words (ask_all calls (start limit rows cells)).0) answers 0 refl (omega arith))
 
     all_read : run_by (calls_read limit (length calls)) bytes rows cells answers ≡ ended (run_read (length rows) (length cells) (length answers) (got (limit, calls) [] 0)) rows cells answers

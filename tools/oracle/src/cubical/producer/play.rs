@@ -79,11 +79,16 @@ impl Player {
         out.expect("an inference without a cell")
     }
 
-    pub fn rows(self) -> Vec<Row> {
+    pub fn row_count(&self) -> usize {
+        self.0.steps.len()
+    }
+
+    pub fn rows(self, made: impl Fn(usize) -> usize) -> Vec<Row> {
         self.0
             .steps
             .into_iter()
-            .map(|(rule, refs, judgment)| Row { rule, refs, judgment })
+            .enumerate()
+            .map(|(i, (rule, refs, judgment))| Row { rule, refs, judgment, made: made(i) })
             .collect()
     }
 }
