@@ -19,3 +19,4 @@ pub mod Opened
 pub mod Examples
 pub mod Pairs
 pub mod Many
+pub mod Endpoints
