@@ -104,6 +104,7 @@ JUDGMENTS = [Judgment(number, name, parts(text), meaning) for number, (name, tex
     ('dsubst', "t: term; k: number; r: interval; t': term", "t' is t with r for dimension k"),
     ('has', 'd: number; g: context; t: term; A: term', 't has the type A'),
     ('eq', 'd: number; g: context; a: term; b: term; A: term', 'a and b are equal at the type A'),
+    ('iend', 'r: interval; e: interval', 'r works out to the end e'),
 ])]
 
 # ---- Rules, in the order of their numbers: name, premises, conclusion. New rules come after the old ones.
@@ -226,6 +227,18 @@ RULES = ruled([
     (114, 'dsubst.pair', '(dsubst A K S P) (dsubst B K S Q)', '(dsubst (pair A B) K S (pair P Q))'),
     (115, 'dsubst.fst', '(dsubst P K S Q)', '(dsubst (fst P) K S (fst Q))'),
     (116, 'dsubst.snd', '(dsubst P K S Q)', '(dsubst (snd P) K S (snd Q))'),
+    (117, 'iend.0', '', '(iend i0 i0)'),
+    (118, 'iend.1', '', '(iend i1 i1)'),
+    (119, 'iend.neg', '(iend R i0)', '(iend (neg R) i1)'),
+    (119, 'iend.neg', '(iend R i1)', '(iend (neg R) i0)'),
+    (120, 'iend.meet', '(iend R i0)', '(iend (meet R W) i0)'),
+    (120, 'iend.meet', '(iend W i0)', '(iend (meet R W) i0)'),
+    (120, 'iend.meet', '(iend R i1) (iend W i1)', '(iend (meet R W) i1)'),
+    (121, 'iend.join', '(iend R i1)', '(iend (join R W) i1)'),
+    (121, 'iend.join', '(iend W i1)', '(iend (join R W) i1)'),
+    (121, 'iend.join', '(iend R i0) (iend W i0)', '(iend (join R W) i0)'),
+    (122, 'eq.p0-val', '(iend R i0) (has D G P (path A B C)) (interval D R) (dsubst A 0 R E) (has D G B E)', '(eq D G (papp P R) B E)'),
+    (123, 'eq.p1-val', '(iend R i1) (has D G P (path A E C)) (interval D R) (dsubst A 0 R B) (has D G C B)', '(eq D G (papp P R) C B)'),
 ])
 
 # ---- Calls: the code, the terms that follow the context, the reference function that is entered. Of code 6 each type is a check.

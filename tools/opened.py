@@ -9,7 +9,7 @@ import re
 
 # Modules of walk with the files that each has its definitions from.
 WALK = {name: [name] for name in ['Syntax', 'Judgment', 'State', 'Walk', 'Reader', 'Limits', 'Run']}
-PARTS = ['Reference', 'Numbers', 'Intervals', 'Transforms', 'Contexts', 'Typing', 'Equality']
+PARTS = ['Reference', 'Numbers', 'Intervals', 'Endpoints', 'Transforms', 'Contexts', 'Typing', 'Equality']
 WALK['Walk'] = ['Walk/' + part for part in PARTS] + ['Walk']
 
 # Modules of other crates that the model over words is defined in; of walk's the names that it takes over.

@@ -17,11 +17,11 @@ use Rattle.walk.specs.Demand.{RowAt, newest, older, Cites, none_cited, ◌also�
 use Rattle.link.specs.Lists.{Nth, here, there, nth_below, nth_lift, Extends, same, more, extends_trans, first_passes, block, last_block, read}
 use Rattle.link.specs.Things.{Shown, shown?, show, shows, yes_true, Counted, Cell, Low, cell_lift, cell_nth, Plain}
 use Rattle.link.proofs.Things.{cell_is, is_cell, low_is, is_low}
-use Rattle.link.specs.Tables.{Shape, s_universe, s_var, s_nat, s_zero, s_pi, s_lam, s_app, s_path, s_plam, s_papp, s_sigma, s_pair, s_fst, s_snd, s_i0, s_i1, s_dim, s_neg, s_meet, s_join, s_nil, s_cons, Spoken, j_ctx, j_dshiftctx, j_lookup, j_lt, j_le, j_max, j_interval, j_ishift, j_isubst, j_shift, j_subst, j_dshift, j_dsubst, j_has, j_eq, j_lift, j_words}
+use Rattle.link.specs.Tables.{Shape, s_universe, s_var, s_nat, s_zero, s_pi, s_lam, s_app, s_path, s_plam, s_papp, s_sigma, s_pair, s_fst, s_snd, s_i0, s_i1, s_dim, s_neg, s_meet, s_join, s_nil, s_cons, Spoken, j_ctx, j_dshiftctx, j_lookup, j_lt, j_le, j_max, j_interval, j_ishift, j_isubst, j_shift, j_subst, j_dshift, j_dsubst, j_has, j_eq, j_iend, j_lift, j_words}
 use Rattle.link.specs.Store.{refs_of, Block, plain, remembered, Line, line, Cells, comes, Kept, no_memory, a_memory_at}
 use Rattle.link.specs.Store.{row_words as row_of}
 use Rattle.link.specs.Holds.{Before, Holds, part_of}
-use Rattle.link.specs.Table.{◌>>=◌, kind_word, part, lower, interval_by, quote_by, ckinds, context_by, interval_at, quote_at, context_at, below, an_interval, a_quote, a_context, no_reading, readings, concluding, read_ctx, read_dshiftctx, read_lookup, read_lt, read_le, read_max, read_interval, read_ishift, read_isubst, read_shift, read_subst, read_dshift, read_dsubst, read_has, read_eq, cited_at, row_at, table_at, four, cell_words, words_at, CellsWords, memory_words, MemoryWords, argument_word, RowWords, TableWords, result_word, Named}
+use Rattle.link.specs.Table.{◌>>=◌, kind_word, part, lower, interval_by, quote_by, ckinds, context_by, interval_at, quote_at, context_at, below, an_interval, a_quote, a_context, no_reading, readings, concluding, read_ctx, read_dshiftctx, read_lookup, read_lt, read_le, read_max, read_interval, read_ishift, read_isubst, read_shift, read_subst, read_dshift, read_dsubst, read_has, read_eq, read_iend, cited_at, row_at, table_at, four, cell_words, words_at, CellsWords, memory_words, MemoryWords, argument_word, RowWords, TableWords, result_word, Named}
 use Rattle.link.specs.Back.{reads, Lowest, SameWords, Inner, LineStays, Told}
 use Rattle.ast.specs.Cells.{Found}
 
@@ -221,7 +221,7 @@ module _ {xs : List Thing} {C : List ℕ} (cs : CellsWords xs C) where
 
   -- a judgment
   judgment_read : {k count a b c d e : ℕ} {j : Judgment} → Spoken xs k count a b c d e j → reads j (length xs) C a b c d e ≡ some j
-  unfolding read_ctx read_dshiftctx read_lookup read_lt read_le read_max read_interval read_ishift read_isubst read_shift read_subst read_dshift read_dsubst read_has read_eq ◌>>=◌
+  unfolding read_ctx read_dshiftctx read_lookup read_lt read_le read_max read_interval read_ishift read_isubst read_shift read_subst read_dshift read_dsubst read_has read_eq read_iend ◌>>=◌
   -- written by tools/written.py: judgments
   judgment_read (j_ctx h0) = rw (context_read h0)
   judgment_read (j_dshiftctx h0 h1) = rw (context_read h0, context_read h1)
@@ -238,6 +238,7 @@ module _ {xs : List Thing} {C : List ℕ} (cs : CellsWords xs C) where
   judgment_read (j_dsubst h0 h1 h2) = rw (quote_read h0, interval_read h1, quote_read h2)
   judgment_read (j_has h0 h1 h2) = rw (context_read h0, quote_read h1, quote_read h2)
   judgment_read (j_eq h0 h1 h2 h3) = rw (context_read h0, quote_read h1, quote_read h2, quote_read h3)
+  judgment_read (j_iend h0 h1) = rw (interval_read h0, interval_read h1)
   -- end of judgments
 
 -- the rows cited
@@ -345,6 +346,7 @@ module _ {xs : List Thing} where
   told (j_dsubst h0 h1 h2) = record { count_is = refl; first = low_is h0; second = refl; third = low_is h1; fourth = low_is h2; fifth = refl }
   told (j_has h0 h1 h2) = record { count_is = refl; first = refl; second = low_is h0; third = low_is h1; fourth = low_is h2; fifth = refl }
   told (j_eq h0 h1 h2 h3) = record { count_is = refl; first = refl; second = low_is h0; third = low_is h1; fourth = low_is h2; fifth = low_is h3 }
+  told (j_iend h0 h1) = record { count_is = refl; first = low_is h0; second = low_is h1; third = refl; fourth = refl; fifth = refl }
 
   -- end of arguments
 

@@ -4,7 +4,7 @@
 use Rattle.std.specs.Prelude.{ℕ, suc, ◌+◌, ◌*◌, ◌<◌, ◌≡◌, List, [], ◌∷◌, ◌++◌, true, false, length, get_or, take, replicate, ltb}
 use Rattle.std.proofs.Math.Option.{Option, none, some}
 use Rattle.walk.specs.Syntax.{Interval, I0, I1, Dim, Neg, Meet, Join, Term, Universe, Var, Nat, Zero, Pi, Lam, App, Path, PathLam, PathApp, Sigma, Pair, Fst, Snd, Nil, Cons, Quote, u, v, nat, zero, pi, lam, app, path, plam, papp, sigma, pair, fst, snd, Quotes, nil, cons, quote}
-use Rattle.walk.specs.Judgment.{Judgment, Argument, number, of_interval, of_quote, of_context, arguments, ctx, dshiftctx, lookup, lt, le, max, interval, ishift, isubst, shift, subst, dshift, dsubst, has, eq}
+use Rattle.walk.specs.Judgment.{Judgment, Argument, number, of_interval, of_quote, of_context, arguments, ctx, dshiftctx, lookup, lt, le, max, interval, ishift, isubst, shift, subst, dshift, dsubst, has, eq, iend}
 use Rattle.walk.specs.Rule.{kind_of}
 use Rattle.walk.specs.Reader.{Kind, k_u, k_v, k_nat, k_zero, k_pi, k_lam, k_app, k_path, k_plam, k_papp, k_sigma, k_pair, k_fst, k_snd, IKind, k_0, k_1, k_dim, k_neg, k_meet, k_join, kinds, ikinds, Call}
 use Rattle.walk.specs.State.{State, Row, Thing, term, inference, Key, key, recall}
@@ -152,11 +152,14 @@ read_has used C d g t A _ = a_context used C g >>= λ g. a_quote used C t >>= λ
 unfoldable pub read_eq : Reads
 read_eq used C d g a b A = a_context used C g >>= λ g. a_quote used C a >>= λ a. a_quote used C b >>= λ b. a_quote used C A >>= λ A. some (eq d g a b A)
 
+unfoldable pub read_iend : Reads
+read_iend used C r e _ _ _ = an_interval used C r >>= λ r. an_interval used C e >>= λ e. some (iend r e)
+
 unfoldable pub no_reading : Reads
 no_reading used C a b c d e = none
 
 abbrev pub readings : List Reads
-readings = read_ctx ∷ read_dshiftctx ∷ read_lookup ∷ read_lt ∷ read_le ∷ read_max ∷ read_interval ∷ read_ishift ∷ read_isubst ∷ read_shift ∷ read_subst ∷ read_dshift ∷ read_dsubst ∷ read_has ∷ read_eq ∷ []
+readings = read_ctx ∷ read_dshiftctx ∷ read_lookup ∷ read_lt ∷ read_le ∷ read_max ∷ read_interval ∷ read_ishift ∷ read_isubst ∷ read_shift ∷ read_subst ∷ read_dshift ∷ read_dsubst ∷ read_has ∷ read_eq ∷ read_iend ∷ []
 
 -- end of readings
 

@@ -319,6 +319,7 @@ pub data Spoken (xs : List Thing) : (kind count a b c d e : ℕ) → Judgment �
   j_dsubst : {a : ℕ} {a' : Quote} {b : ℕ} {c : ℕ} {c' : Interval} {d : ℕ} {d' : Quote} → Low a (a_quote a') xs → Low c (an_interval c') xs → Low d (a_quote d') xs → Spoken xs 12 4 a b c d 0 (J.dsubst a' b c' d')
   j_has : {a : ℕ} {b : ℕ} {b' : Quotes} {c : ℕ} {c' : Quote} {d : ℕ} {d' : Quote} → Low b (a_context b') xs → Low c (a_quote c') xs → Low d (a_quote d') xs → Spoken xs 13 4 a b c d 0 (J.has a b' c' d')
   j_eq : {a : ℕ} {b : ℕ} {b' : Quotes} {c : ℕ} {c' : Quote} {d : ℕ} {d' : Quote} {e : ℕ} {e' : Quote} → Low b (a_context b') xs → Low c (a_quote c') xs → Low d (a_quote d') xs → Low e (a_quote e') xs → Spoken xs 14 5 a b c d e (J.eq a b' c' d' e')
+  j_iend : {a : ℕ} {a' : Interval} {b : ℕ} {b' : Interval} → Low a (an_interval a') xs → Low b (an_interval b') xs → Spoken xs 15 2 a b 0 0 0 (J.iend a' b')
 
 pub j_lift : {xs ys : List Thing} {kind count a b c d e : ℕ} {x : Judgment} → Extends xs ys → Spoken xs kind count a b c d e x → Spoken ys kind count a b c d e x
 j_lift e (j_ctx h0) = j_ctx (low_lift e h0)
@@ -336,6 +337,7 @@ j_lift e (j_dshift h0 h1) = j_dshift (low_lift e h0) (low_lift e h1)
 j_lift e (j_dsubst h0 h1 h2) = j_dsubst (low_lift e h0) (low_lift e h1) (low_lift e h2)
 j_lift e (j_has h0 h1 h2) = j_has (low_lift e h0) (low_lift e h1) (low_lift e h2)
 j_lift e (j_eq h0 h1 h2 h3) = j_eq (low_lift e h0) (low_lift e h1) (low_lift e h2) (low_lift e h3)
+j_lift e (j_iend h0 h1) = j_iend (low_lift e h0) (low_lift e h1)
 
 -- words fix what they stand for, and are fixed by it
 pub j_same : {xs : List Thing} {kind count count' a b c d e : ℕ} {x y : Judgment} → Spoken xs kind count a b c d e x → Spoken xs kind count' a b c d e y → x ≡ y
@@ -354,6 +356,7 @@ j_same (j_dshift h0 h1) (j_dshift k0 k1) = let e0 = low_same h0 k0 in let e1 = l
 j_same (j_dsubst h0 h1 h2) (j_dsubst k0 k1 k2) = let e0 = low_same h0 k0 in let e1 = low_same h1 k1 in let e2 = low_same h2 k2 in cc
 j_same (j_has h0 h1 h2) (j_has k0 k1 k2) = let e0 = low_same h0 k0 in let e1 = low_same h1 k1 in let e2 = low_same h2 k2 in cc
 j_same (j_eq h0 h1 h2 h3) (j_eq k0 k1 k2 k3) = let e0 = low_same h0 k0 in let e1 = low_same h1 k1 in let e2 = low_same h2 k2 in let e3 = low_same h3 k3 in cc
+j_same (j_iend h0 h1) (j_iend k0 k1) = let e0 = low_same h0 k0 in let e1 = low_same h1 k1 in cc
 
 pub j_words : {xs : List Thing} {kind count a b c d e kind' count' a' b' c' d' e' : ℕ} {x : Judgment} → Spoken xs kind count a b c d e x → Spoken xs kind' count' a' b' c' d' e' x → (kind ∷ count ∷ a ∷ b ∷ c ∷ d ∷ e ∷ []) ≡ (kind' ∷ count' ∷ a' ∷ b' ∷ c' ∷ d' ∷ e' ∷ [])
 j_words (j_ctx h0) (j_ctx k0) = let e0 = low_number h0 k0 in cc
@@ -371,3 +374,4 @@ j_words (j_dshift h0 h1) (j_dshift k0 k1) = let e0 = low_number h0 k0 in let e1 
 j_words (j_dsubst h0 h1 h2) (j_dsubst k0 k1 k2) = let e0 = low_number h0 k0 in let e1 = low_number h1 k1 in let e2 = low_number h2 k2 in cc
 j_words (j_has h0 h1 h2) (j_has k0 k1 k2) = let e0 = low_number h0 k0 in let e1 = low_number h1 k1 in let e2 = low_number h2 k2 in cc
 j_words (j_eq h0 h1 h2 h3) (j_eq k0 k1 k2 k3) = let e0 = low_number h0 k0 in let e1 = low_number h1 k1 in let e2 = low_number h2 k2 in let e3 = low_number h3 k3 in cc
+j_words (j_iend h0 h1) (j_iend k0 k1) = let e0 = low_number h0 k0 in let e1 = low_number h1 k1 in cc

@@ -4,7 +4,7 @@ use Rattle.std.proofs.Common.{ap, ◌∙◌, append-nil}
 use Rattle.std.proofs.Math.Nat.{min-eq_right}
 use Rattle.walk.specs.Syntax.{Interval, Quote, Quotes}
 use Rattle.walk.specs.Rule.{kind_of}
-use Rattle.walk.specs.Judgment.{Judgment, kind, ctx, dshiftctx, lookup, lt, le, max, interval, ishift, isubst, shift, subst, dshift, dsubst, has, eq, Argument, arguments}
+use Rattle.walk.specs.Judgment.{Judgment, kind, ctx, dshiftctx, lookup, lt, le, max, interval, ishift, isubst, shift, subst, dshift, dsubst, has, eq, iend, Argument, arguments}
 use Rattle.rules.specs.Names.{bytes, judgment_name, node_name}
 use Rattle.rules.specs.Kinds.{sorts_of, sort_of, parts_of, part_of}
 use Rattle.rules.specs.Sorts.{sort}
@@ -99,6 +99,7 @@ judgment_said (dshift t k t') (and_then h0 (and_then h1 (and_then h2 no_more))) 
 judgment_said (dsubst t k r t') (and_then h0 (and_then h1 (and_then h2 (and_then h3 no_more)))) = rw (argument_said h0, argument_said h1, argument_said h2, argument_said h3) (close_1 (spaced (bytes "(" ++ judgment_name 12) (all_texts (arguments (dsubst t k r t')))))
 judgment_said (has d g t A) (and_then h0 (and_then h1 (and_then h2 (and_then h3 no_more)))) = rw (argument_said h0, argument_said h1, argument_said h2, argument_said h3) (close_1 (spaced (bytes "(" ++ judgment_name 13) (all_texts (arguments (has d g t A)))))
 judgment_said (eq d g a b A) (and_then h0 (and_then h1 (and_then h2 (and_then h3 (and_then h4 no_more))))) = rw (argument_said h0, argument_said h1, argument_said h2, argument_said h3, argument_said h4)
+judgment_said (iend r e) (and_then h0 (and_then h1 no_more)) = rw (argument_said h0, argument_said h1) (close_3 (spaced (bytes "(" ++ judgment_name 15) (all_texts (arguments (iend r e)))))
 
 -- end of text of a judgment
 

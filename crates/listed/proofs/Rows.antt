@@ -38,6 +38,7 @@ at_most_five (J.dshift t k t') = lit≤ tt
 at_most_five (J.dsubst t k r t') = lit≤ tt
 at_most_five (J.has d g t A) = lit≤ tt
 at_most_five (J.eq d g a b A) = lit≤ tt
+at_most_five (J.iend r e) = lit≤ tt
 
 -- end of numbers of arguments
 

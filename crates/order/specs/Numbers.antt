@@ -1,7 +1,7 @@
 -- The largest number that stands in a term, a judgment or a cell, and what it means that a run leaves none above `largest`.
 use Rattle.std.specs.Prelude.{ℕ, ◌≤◌, max, List, [], ◌∷◌}
 use Rattle.walk.specs.Syntax.{Interval, I0, I1, Dim, Neg, Meet, Join, Term, Universe, Var, Nat, Zero, Pi, Lam, App, Path, PathLam, PathApp, Sigma, Pair, Fst, Snd, Context, Nil, Cons, Quote, u, v, nat, zero, pi, lam, app, path, plam, papp, sigma, pair, fst, snd, Quotes, nil, cons}
-use Rattle.walk.specs.Judgment.{Judgment, ctx, dshiftctx, lookup, lt, le, max as is_max, interval, ishift, isubst, shift, subst, dshift, dsubst, has, eq}
+use Rattle.walk.specs.Judgment.{Judgment, ctx, dshiftctx, lookup, lt, le, max as is_max, interval, ishift, isubst, shift, subst, dshift, dsubst, has, eq, iend}
 use Rattle.walk.specs.State.{Key, key, Thing, term, context, inference, Memory, State}
 use Rattle.walk.specs.Run.{Result, no_result, a_level, a_term, Ran}
 
@@ -85,6 +85,7 @@ judgment_top (dshift t k r) = max k (max (quote_top t) (quote_top r))
 judgment_top (dsubst t k r p) = max k (max (quote_top t) (max (interval_top r) (quote_top p)))
 judgment_top (has d g t a) = max d (max (quotes_top g) (max (quote_top t) (quote_top a)))
 judgment_top (eq d g a b t) = max d (max (quotes_top g) (max (quote_top a) (max (quote_top b) (quote_top t))))
+judgment_top (iend r e) = max (interval_top r) (interval_top e)
 
 -- The key of an inference has a dimension count too.
 abbrev pub key_top : Key → ℕ

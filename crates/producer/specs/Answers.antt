@@ -37,10 +37,10 @@ end_step (Ok (s, Some (term, ty, row))) R C = step.is (some (record { term = ter
 end_step (Ok (s, None)) R C = step.is none (machine R C s)
 end_step (Err e) R C = step.not (refusal_number e.refusal) (machine R C e.state)
 
-unfoldable pub end_round : Answer (program.Option (ℕ × ℕ)) → List ℕ → List ℕ → step.Result (Option (ℕ × ℕ))
-end_round (Ok (s, Some x)) R C = step.is (some x) (machine R C s)
-end_round (Ok (s, None)) R C = step.is none (machine R C s)
-end_round (Err e) R C = step.not (refusal_number e.refusal) (machine R C e.state)
+unfoldable pub end_maybe : {A : Type 0} → Answer (program.Option A) → List ℕ → List ℕ → step.Result (Option A)
+end_maybe (Ok (s, Some x)) R C = step.is (some x) (machine R C s)
+end_maybe (Ok (s, None)) R C = step.is none (machine R C s)
+end_maybe (Err e) R C = step.not (refusal_number e.refusal) (machine R C e.state)
 
 -- a conversion has ended
 unfoldable pub ended_answer : {A : Type 0} → Answer A → Answer A

@@ -1,7 +1,8 @@
--- The sixteen reference functions over words, and what is done before an argument is made for one. Assumes nothing.
+-- The seventeen reference functions over words, and what is done before an argument is made for one. Assumes nothing.
 use Rattle.std.specs.Prelude.{ℕ, Bool}
 use Rattle.std.proofs.Math.Option.{Option}
 use Rattle.producer.specs.declared.rows.Refs.{Refs}
+use Rattle.producer.specs.declared.endpoints.End.{End}
 use Rattle.producer.specs.declared.intervals.IOp.{IOp}
 use Rattle.producer.specs.declared.transforms.Op.{Op}
 use Rattle.producer.specs.Machine.{W, Reduction, ◌>>=◌}
@@ -22,6 +23,7 @@ pub record Callees : Type 0 where
   pub under : Op → Bool → W (Op × Refs)
   pub itransform : ℕ → IOp → W (ℕ × ℕ)
   pub interval : (d r : ℕ) → W ℕ
+  pub endpoint : ℕ → W (Option (End × ℕ))
   pub comparison : (m n : ℕ) → Bool → W ℕ
   pub max : (m n : ℕ) → W ℕ
 

@@ -5,6 +5,7 @@ use Rattle.producer.specs.Machine.{stop, enter, note}
 use Rattle.producer.specs.Callees.{Callees}
 use Rattle.producer.specs.Numbers.{comparison_body, max_body}
 use Rattle.producer.specs.Intervals.{itransform_body, interval_body}
+use Rattle.producer.specs.Endpoints.{endpoint_body}
 use Rattle.producer.specs.Transforms.{transform_body, under_body}
 use Rattle.producer.specs.Contexts.{lookup_body, dshiftctx_body}
 use Rattle.producer.specs.Typing.{ctx_body, infer_body, universe_body, check_body, expose_body}
@@ -28,6 +29,7 @@ none_left = record {
   under = λ op dimension. stop Refusal.nesting;
   itransform = λ r op. stop Refusal.nesting;
   interval = λ d r. stop Refusal.nesting;
+  endpoint = λ r. stop Refusal.nesting;
   comparison = λ m k strict. stop Refusal.nesting;
   max = λ m k. stop Refusal.nesting;
 }
@@ -50,6 +52,7 @@ entered n c = record {
   under = λ op dimension. enter n (under_body c op dimension);
   itransform = λ r op. enter n (itransform_body c r op);
   interval = λ d r. enter n (interval_body c d r);
+  endpoint = λ r. enter n (endpoint_body c r);
   comparison = λ m k strict. enter n (comparison_body c m k strict);
   max = λ m k. enter n (max_body c m k);
 }

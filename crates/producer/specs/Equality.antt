@@ -1,11 +1,13 @@
 -- Equality: root reductions, normal forms, equal terms. Assumes nothing.
 use Rattle.std.specs.Prelude.{ℕ, zero, suc, eqb}
 use Rattle.std.proofs.Math.Option.{Option, none, some}
+use Rattle.producer.specs.declared.endpoints.End.{End}
 use Rattle.producer.specs.declared.transforms.Op.TheVariants.{Subst, DSubst}
 use Rattle.walk.specs.Rule as R
 use Rattle.walk.specs.Refusal as Refusal
-use Rattle.producer.specs.Machine.{W, Reduction, ◌>>=◌, give, stop, when◌then◌else◌, open_cell, same_quote, at_universe, at_pi, at_lam, at_path, at_plam, at_sigma, at_pair, make_fst, make_cons, emit_eq, refs_1, refs_2, refs_3, refs_5, refs_6}
+use Rattle.producer.specs.Machine.{W, Reduction, ◌>>=◌, give, stop, when◌then◌else◌, on_maybe, open_cell, same_quote, at_universe, at_pi, at_lam, at_path, at_plam, at_sigma, at_pair, make_fst, make_cons, emit_eq, refs_1, refs_2, refs_3, refs_5, refs_6}
 use Rattle.producer.specs.Callees.{Callees, for_call}
+use Rattle.producer.specs.Endpoints.{by_end}
 use Rattle.producer.specs.Typing.{as_path, as_sigma}
 
 unfoldable pub beta_row : Callees → (d g t body r b x y z arg : ℕ) → W (Option Reduction)
@@ -45,11 +47,37 @@ at_ends c d g t r b e ty x y =
     when eqb w.kind 16 then at_end c d g t b ty x y R.eq_p0
     else (when eqb w.kind 17 then at_end c d g t e ty x y R.eq_p1 else give none)
 
-unfoldable pub reduce_papp : Callees → (d g t p r : ℕ) → W (Option Reduction)
-reduce_papp c d g t p r = do
+unfoldable pub along : Callees → (d g t p r : ℕ) → W (Option Reduction)
+along c d g t p r = do
   (a, b, e, x) ← as_path c d g p
   (ty, y) ← c.transform a (DSubst 0 r)
   at_plam p (λ _ body. pbeta c d g t r body ty x y) (at_ends c d g t r b e ty x y)
+
+-- what the interval of a papp works out to, where that is asked for: not of a plam, nor where an end is written
+unfoldable pub long_end : Callees → (p r : ℕ) → W (Option (End × ℕ))
+long_end c p r =
+    at_plam p (λ _ _. give none)
+    (open_cell r λ w.
+    when eqb w.kind 16 then give none
+    else (when eqb w.kind 17 then give none else c.endpoint r))
+
+unfoldable pub val_rule : End → ℕ
+val_rule e = by_end e R.eq_p0_val R.eq_p1_val
+
+-- the interval works out to the end e, by the row w
+unfoldable pub at_val : Callees → (d g t p r : ℕ) → End → ℕ → W (Option Reduction)
+at_val c d g t p r e w = do
+  (a, b, f, x) ← as_path c d g p
+  y ← c.interval d r
+  (ty, z) ← c.transform a (DSubst 0 r)
+  typed ← c.check d g (by_end e b f) ty
+  row ← emit_eq (val_rule e) (refs_5 w x y z typed) d g t (by_end e b f) ty
+  give (some (record { term = by_end e b f; type = ty; row = row }))
+
+unfoldable pub reduce_papp : Callees → (d g t p r : ℕ) → W (Option Reduction)
+reduce_papp c d g t p r = do
+  end ← long_end c p r
+  on_maybe end (λ e w. at_val c d g t p r e w) (along c d g t p r)
 
 -- the projections of the pair p
 unfoldable pub fst_beta : Callees → (d g t p a : ℕ) → W (Option Reduction)
@@ -79,10 +107,6 @@ unfoldable pub on_step : {A : Type 0} → Option Reduction → (Reduction → W 
 on_step (some s) f z = f s
 on_step none f z = z
 
-unfoldable pub on_next : {A : Type 0} → Option (ℕ × ℕ) → (ℕ → ℕ → W A) → W A → W A
-on_next (some p) f z = f p.0 p.1
-on_next none f z = z
-
 -- one root reduction, at the type wanted: the term reached and the row of its equation
 unfoldable pub round : Callees → (d g t ty current evidence : ℕ) → W (Option (ℕ × ℕ))
 round c d g t ty current evidence = do
@@ -104,7 +128,7 @@ rounds zero c d g t ty current evidence = do
   on_step next (λ step. stop Refusal.reductions) (give (current, evidence))
 rounds (suc left) c d g t ty current evidence = do
   next ← round c d g t ty current evidence
-  on_next next (λ term row. rounds left c d g t ty term row) (give (current, evidence))
+  on_maybe next (λ term row. rounds left c d g t ty term row) (give (current, evidence))
 
 unfoldable pub normalize_body : Callees → (d g t ty : ℕ) → W (ℕ × ℕ)
 normalize_body c d g t ty = do

@@ -129,6 +129,13 @@ rule_number rule.DSubstSigma = R.dsubst_sigma
 rule_number rule.DSubstPair = R.dsubst_pair
 rule_number rule.DSubstFst = R.dsubst_fst
 rule_number rule.DSubstSnd = R.dsubst_snd
+rule_number rule.Iend0 = R.iend_0
+rule_number rule.Iend1 = R.iend_1
+rule_number rule.IendNeg = R.iend_neg
+rule_number rule.IendMeet = R.iend_meet
+rule_number rule.IendJoin = R.iend_join
+rule_number rule.EqP0Val = R.eq_p0_val
+rule_number rule.EqP1Val = R.eq_p1_val
 rule_number (rule.Other n) = n
 
 unfoldable pub words_of : Judgment → Words
@@ -147,6 +154,7 @@ words_of (judgment.DShift x0 x1 x2) = record { kind = 11; count = 3; a = x0; b =
 words_of (judgment.DSubst x0 x1 x2 x3) = record { kind = 12; count = 4; a = x0; b = x1; c = x2; d = x3; e = 0 }
 words_of (judgment.Has x0 x1 x2 x3) = record { kind = 13; count = 4; a = x0; b = x1; c = x2; d = x3; e = 0 }
 words_of (judgment.Eq x0 x1 x2 x3 x4) = record { kind = 14; count = 5; a = x0; b = x1; c = x2; d = x3; e = x4 }
+words_of (judgment.Iend x0 x1) = record { kind = 15; count = 2; a = x0; b = x1; c = 0; d = 0; e = 0 }
 
 unfoldable pub emit_words : ℕ → Refs → Words → W ℕ
 emit_words n l w = emit n l w.kind w.count w.a w.b w.c w.d w.e

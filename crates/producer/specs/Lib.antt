@@ -4,6 +4,7 @@ pub mod Answers
 pub mod Callees
 pub mod Numbers
 pub mod Intervals
+pub mod Endpoints
 pub mod Transforms
 pub mod Contexts
 pub mod Typing

@@ -60,6 +60,11 @@ unfoldable pub when◌then◌else◌ : {A : Type 0} → Bool → W A → W A →
 when◌then◌else◌ true x y = x
 when◌then◌else◌ false x y = y
 
+-- something with a row, or none
+unfoldable pub on_maybe : {A B : Type 0} → Option (B × ℕ) → (B → ℕ → W A) → W A → W A
+on_maybe (some p) f z = f p.0 p.1
+on_maybe none f z = z
+
 -- a step of `reduce`: the term, its type, and the row of the equation
 pub record Reduction : Type 0 where
   pub term : ℕ

@@ -123,6 +123,13 @@ pub enum Rule {
     DSubstPair,
     DSubstFst,
     DSubstSnd,
+    Iend0,
+    Iend1,
+    IendNeg,
+    IendMeet,
+    IendJoin,
+    EqP0Val,
+    EqP1Val,
     // Any other number.
     Other(u32),
 }
@@ -251,6 +258,13 @@ impl Rule {
             Rule::DSubstPair => 114,
             Rule::DSubstFst => 115,
             Rule::DSubstSnd => 116,
+            Rule::Iend0 => 117,
+            Rule::Iend1 => 118,
+            Rule::IendNeg => 119,
+            Rule::IendMeet => 120,
+            Rule::IendJoin => 121,
+            Rule::EqP0Val => 122,
+            Rule::EqP1Val => 123,
             Rule::Other(number) => number,
         }
     }
@@ -289,6 +303,8 @@ pub enum Judgment {
     Has(u32, u32, u32, u32),
     // a and b are equal at the type A.
     Eq(u32, u32, u32, u32, u32),
+    // r works out to the end e.
+    Iend(u32, u32),
 }
 
 // A judgment as a row has it: its kind, how many arguments it has, and these; 0 past the last.
@@ -443,6 +459,15 @@ impl Judgment {
                 c: x2,
                 d: x3,
                 e: x4,
+            },
+            Judgment::Iend(x0, x1) => Words {
+                kind: 15,
+                count: 2,
+                a: x0,
+                b: x1,
+                c: 0,
+                d: 0,
+                e: 0,
             },
         }
     }

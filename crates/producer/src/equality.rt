@@ -1,14 +1,15 @@
 // Equality: root reductions, normal forms, equal terms. With typing.rt these form one cycle of calls.
 ghost use Rattle.std.specs.Prelude.{◌≡◌};
-ghost use Rattle.producer.specs.Answers.{end, end_step, end_round};
+ghost use Rattle.producer.specs.Answers.{end, end_step, end_maybe};
 ghost use Rattle.producer.specs.Judgments.{rule_number};
 ghost use Rattle.producer.specs.Machine.{machine};
-ghost use Rattle.producer.specs.Equality.{beta, beta_row, at_end, pbeta, reduce_papp, round, rounds};
+ghost use Rattle.producer.specs.Equality.{beta, beta_row, at_end, pbeta, along, at_val, reduce_papp, round, rounds};
 ghost use Rattle.producer.specs.Calls.{callees};
 
 use crate::State;
 use crate::answers::{Answer, Reduced};
 use crate::codes::Rule;
+use crate::endpoints::End;
 use crate::rows::cite;
 use crate::transforms::Op;
 use ast::cells::{Node, Shape, read, same_quote, shape_of};
@@ -151,6 +152,58 @@ impl State {
         r: u32,
     ) -> Answer<Option<Reduced>>
         ensures { end_step result rows.new cells.new ≡ reduce_papp (callees left) d g t p r (machine rows.old cells.old self) }
+    {
+        let (s1, end) = self.long_end(left, rows, cells, p, r)?;
+        let Some((e, w)) = end else {
+            return s1.along(left, rows, cells, d, g, t, p, r);
+        };
+        s1.val(left, rows, cells, d, g, t, p, r, e, w)
+    }
+
+    // The path `p` along an interval that works out to the end `e`, by the row `w`: the side of its type there.
+    #[cycle(typing)]
+    pub fn val(
+        self,
+        left: u32,
+        rows: &mut [u32],
+        cells: &mut [u32],
+        d: u32,
+        g: u32,
+        t: u32,
+        p: u32,
+        r: u32,
+        e: End,
+        w: u32,
+    ) -> Answer<Option<Reduced>>
+        ensures { end_step result rows.new cells.new ≡ at_val (callees left) d g t p r e w (machine rows.old cells.old self) }
+    {
+        let (s1, (path, x)) = self.head(left, rows, cells, d, g, p, Kind::Path)?;
+        let Shape::Path(family, b, c) = shape_of(cells, path) else {
+            return Err(s1.refused(Refusal::NoPath));
+        };
+        let (s2, y) = s1.interval(left, rows, cells, d, r)?;
+        let (s3, (ty, z)) = s2.transform(left, rows, cells, family, Op::DSubst(0, r))?;
+        let out = e.side(b, c);
+        let (s4, typed) = s3.check(left, rows, cells, d, g, out, ty)?;
+        let refs = cite([w, x, y, z, typed]);
+        let (s5, row) = s4.emit_eq(rows, cells, e.rule(), refs, d, g, t, out, ty)?;
+        Ok((s5, Some((out, ty, row))))
+    }
+
+    // The path `p` along an interval that is no endpoint, or is written as one; or a plam along any.
+    #[cycle(typing)]
+    pub fn along(
+        self,
+        left: u32,
+        rows: &mut [u32],
+        cells: &mut [u32],
+        d: u32,
+        g: u32,
+        t: u32,
+        p: u32,
+        r: u32,
+    ) -> Answer<Option<Reduced>>
+        ensures { end_step result rows.new cells.new ≡ along (callees left) d g t p r (machine rows.old cells.old self) }
     {
         let (s1, (path, x)) = self.head(left, rows, cells, d, g, p, Kind::Path)?;
         let Shape::Path(family, b, c) = shape_of(cells, path) else {
@@ -298,7 +351,7 @@ impl State {
         current: u32,
         evidence: u32,
     ) -> Answer<Option<(u32, u32)>>
-        ensures { end_round result rows.new cells.new ≡ round (callees left) d g t ty current evidence (machine rows.old cells.old self) }
+        ensures { end_maybe result rows.new cells.new ≡ round (callees left) d g t ty current evidence (machine rows.old cells.old self) }
     {
         let (s1, reduced) = self.reduce(left, rows, cells, d, g, current)?;
         let Some((term, at, step)) = reduced else {

@@ -1,4 +1,4 @@
-// The producer of producer.rs over lent slices of 32-bit words: rows, cells, and the sixteen reference functions.
+// The producer of producer.rs over lent slices of 32-bit words: rows, cells, and the seventeen reference functions.
 #![tactic(auto)]
 
 pub mod codes; // the judgments and the rules, and their numbers
@@ -8,6 +8,7 @@ pub mod rows; // rows, citations, the search for a known judgment
 pub mod store; // cells that are made, and what is remembered
 pub mod numbers; // comparison, max
 pub mod intervals; // interval, itransform
+pub mod endpoints; // endpoint
 pub mod transforms; // transform, under
 pub mod contexts; // dshiftctx, lookup
 pub mod typing; // ctx, infer, universe, check, expose

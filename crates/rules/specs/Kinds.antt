@@ -33,6 +33,7 @@ judgments =
     ("dsubst" takes term ∷ number ∷ interval ∷ term ∷ []) ∷
     ("has" takes number ∷ context ∷ term ∷ term ∷ []) ∷
     ("eq" takes number ∷ context ∷ term ∷ term ∷ term ∷ []) ∷
+    ("iend" takes interval ∷ interval ∷ []) ∷
     -- end of judgments
     []
 
@@ -105,7 +106,7 @@ part_of k n = slice_get (parts_of k) n
 -- How many judgments and nodes there are, kinds that are no node among them.
 -- written by tools/written.py: counts
 abbrev pub judgment_count : ℕ
-judgment_count = 15
+judgment_count = 16
 
 abbrev pub node_count : ℕ
 node_count = 34

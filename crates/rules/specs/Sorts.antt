@@ -1,6 +1,6 @@
 -- The table of judgments has the sorts of each judgment's arguments. Assumes nothing.
 use Rattle.std.specs.Prelude.{◌≡◌, refl, map}
-use Rattle.walk.specs.Judgment.{Judgment, kind, Argument, number, of_interval, of_quote, of_context, arguments, ctx, dshiftctx, lookup, lt, le, max, interval, ishift, isubst, shift, subst, dshift, dsubst, has, eq}
+use Rattle.walk.specs.Judgment.{Judgment, kind, Argument, number, of_interval, of_quote, of_context, arguments, ctx, dshiftctx, lookup, lt, le, max, interval, ishift, isubst, shift, subst, dshift, dsubst, has, eq, iend}
 use Rattle.rules.specs.declared.Sort.{Sort}
 use Rattle.rules.specs.declared.Sort.TheVariants.{Number, Term, Interval, Context}
 use Rattle.rules.specs.Kinds as K
@@ -30,5 +30,6 @@ sorted (dshift t k t') = refl
 sorted (dsubst t k r t') = refl
 sorted (has d g t A) = refl
 sorted (eq d g a b A) = refl
+sorted (iend r e) = refl
 
 -- end of sorts of judgments

@@ -41,7 +41,7 @@ pub const NO_NODE: Node = Node {
 };
 
 // The rules by their number.
-pub static RULES: [Rule; 117] = [
+pub static RULES: [Rule; 124] = [
     Rule {
         name: b"ctx.nil",
         kind: 0,
@@ -510,10 +510,38 @@ pub static RULES: [Rule; 117] = [
         name: b"dsubst.snd",
         kind: 12,
     },
+    Rule {
+        name: b"iend.0",
+        kind: 15,
+    },
+    Rule {
+        name: b"iend.1",
+        kind: 15,
+    },
+    Rule {
+        name: b"iend.neg",
+        kind: 15,
+    },
+    Rule {
+        name: b"iend.meet",
+        kind: 15,
+    },
+    Rule {
+        name: b"iend.join",
+        kind: 15,
+    },
+    Rule {
+        name: b"eq.p0-val",
+        kind: 14,
+    },
+    Rule {
+        name: b"eq.p1-val",
+        kind: 14,
+    },
 ];
 
 // The judgments by their kind.
-pub static JUDGMENTS: [Judgment; 15] = [
+pub static JUDGMENTS: [Judgment; 16] = [
     Judgment {
         name: b"ctx",
         sorts: &[Number, Context],
@@ -573,6 +601,10 @@ pub static JUDGMENTS: [Judgment; 15] = [
     Judgment {
         name: b"eq",
         sorts: &[Number, Context, Term, Term, Term],
+    },
+    Judgment {
+        name: b"iend",
+        sorts: &[Interval, Interval],
     },
 ];
 

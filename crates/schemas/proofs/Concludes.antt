@@ -2,7 +2,7 @@
 -- once, and so a fact about every row that follows. No rule has a clause of its own.
 use Rattle.std.specs.Prelude.{ℕ, suc, ◌≤◌, ◌≡◌, refl, Bool, true, false, ◌&&◌, List, [], ◌∷◌, map, T, eqb, leb, length}
 use Rattle.std.proofs.Common.{sym, ◌∙◌, ap, arith, eqb→eq, leb→le}
-use Rattle.walk.specs.Judgment.{Judgment, kind, arguments, ctx, dshiftctx, lookup, lt, le, max, interval, ishift, isubst, shift, subst, dshift, dsubst, has, eq}
+use Rattle.walk.specs.Judgment.{Judgment, kind, arguments, ctx, dshiftctx, lookup, lt, le, max, interval, ishift, isubst, shift, subst, dshift, dsubst, has, eq, iend}
 use Rattle.walk.specs.Rule.{kind_of}
 use Rattle.walk.specs.Rules.{Follows}
 use Rattle.rules.specs.Kinds.{sorts_of}
@@ -43,6 +43,7 @@ begins (dshift t k t') = refl
 begins (dsubst t k r t') = refl
 begins (has d g t A) = refl
 begins (eq d g a b A) = refl
+begins (iend r e) = refl
 
 -- end of kinds by name
 

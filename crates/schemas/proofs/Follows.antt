@@ -134,6 +134,18 @@ holds =
     (λ e. R.by_dsubst_pair) and
     (λ e. R.by_dsubst_fst) and
     (λ e. R.by_dsubst_snd) and
+    (λ e. R.by_iend_0) and
+    (λ e. R.by_iend_1) and
+    (λ e. R.by_iend_neg_0) and
+    (λ e. R.by_iend_neg_1) and
+    (λ e. R.by_iend_meet_0) and
+    (λ e. R.by_iend_meet_1) and
+    (λ e. R.by_iend_meet_2) and
+    (λ e. R.by_iend_join_0) and
+    (λ e. R.by_iend_join_1) and
+    (λ e. R.by_iend_join_2) and
+    (λ e. R.by_eq_p0_val) and
+    (λ e. R.by_eq_p1_val) and
     -- end of each line holds
     all
 
@@ -271,6 +283,18 @@ complete R.by_dsubst_sigma = find lines 113 tt refl refl
 complete R.by_dsubst_pair = find lines 114 tt refl refl
 complete R.by_dsubst_fst = find lines 115 tt refl refl
 complete R.by_dsubst_snd = find lines 116 tt refl refl
+complete R.by_iend_0 = find lines 117 tt refl refl
+complete R.by_iend_1 = find lines 118 tt refl refl
+complete R.by_iend_neg_0 = find lines 119 tt refl refl
+complete R.by_iend_neg_1 = find lines 120 tt refl refl
+complete R.by_iend_meet_0 = find lines 121 tt refl refl
+complete R.by_iend_meet_1 = find lines 122 tt refl refl
+complete R.by_iend_meet_2 = find lines 123 tt refl refl
+complete R.by_iend_join_0 = find lines 124 tt refl refl
+complete R.by_iend_join_1 = find lines 125 tt refl refl
+complete R.by_iend_join_2 = find lines 126 tt refl refl
+complete R.by_eq_p0_val = find lines 127 tt refl refl
+complete R.by_eq_p1_val = find lines 128 tt refl refl
 
 -- end of each rule has its line
 

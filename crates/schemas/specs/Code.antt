@@ -1,7 +1,7 @@
 -- Judgments as trees, and back.
 use Rattle.std.specs.Prelude.{ℕ, ◌≡◌, refl, List, [], ◌∷◌, Bool, true, false, eqb}
 use Rattle.walk.specs.Syntax.{Interval, I0, I1, Dim, Neg, Meet, Join, Quote, u, v, nat, zero, pi, lam, app, path, plam, papp, sigma, pair, fst, snd, Quotes, nil, cons}
-use Rattle.walk.specs.Judgment.{Judgment, ctx, dshiftctx, lookup, lt, le, max, interval, ishift, isubst, shift, subst, dshift, dsubst, has, eq}
+use Rattle.walk.specs.Judgment.{Judgment, ctx, dshiftctx, lookup, lt, le, max, interval, ishift, isubst, shift, subst, dshift, dsubst, has, eq, iend}
 use Prim.Native.String.{String}
 use Rattle.rules.specs.Names.{bytes}
 use Rattle.schemas.specs.Tree.{Text, leaf, word, ◌·◌, end, named, ◌!◌, Value}
@@ -62,6 +62,7 @@ of_judgment (dshift x₀ x₁ x₂) = "dshift" ! of_quote x₀ · leaf x₁ · o
 of_judgment (dsubst x₀ x₁ x₂ x₃) = "dsubst" ! of_quote x₀ · leaf x₁ · of_interval x₂ · of_quote x₃ · end
 of_judgment (has x₀ x₁ x₂ x₃) = "has" ! leaf x₀ · of_context x₁ · of_quote x₂ · of_quote x₃ · end
 of_judgment (eq x₀ x₁ x₂ x₃ x₄) = "eq" ! leaf x₀ · of_context x₁ · of_quote x₂ · of_quote x₃ · of_quote x₄ · end
+of_judgment (iend x₀ x₁) = "iend" ! of_interval x₀ · of_interval x₁ · end
 
 -- end of judgments as trees
 
@@ -181,6 +182,7 @@ words =
     ("dsubst" means q λ x₀. n λ x₁. i λ x₂. q λ x₃. j (dsubst x₀ x₁ x₂ x₃)) ∷
     ("has" means n λ x₀. c λ x₁. q λ x₂. q λ x₃. j (has x₀ x₁ x₂ x₃)) ∷
     ("eq" means n λ x₀. c λ x₁. q λ x₂. q λ x₃. q λ x₄. j (eq x₀ x₁ x₂ x₃ x₄)) ∷
+    ("iend" means i λ x₀. i λ x₁. j (iend x₀ x₁)) ∷
     -- end of words
     []
 
@@ -287,6 +289,7 @@ read_judgment (dshift x₀ x₁ x₂) = rw (read_quote x₀, read_quote x₂)
 read_judgment (dsubst x₀ x₁ x₂ x₃) = rw (read_quote x₀, read_interval x₂, read_quote x₃)
 read_judgment (has x₀ x₁ x₂ x₃) = rw (read_context x₁, read_quote x₂, read_quote x₃)
 read_judgment (eq x₀ x₁ x₂ x₃ x₄) = rw (read_context x₁, read_quote x₂, read_quote x₃, read_quote x₄)
+read_judgment (iend x₀ x₁) = rw (read_interval x₀, read_interval x₁)
 
 -- end of judgments read back
 

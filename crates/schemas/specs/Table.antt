@@ -143,5 +143,17 @@ lines =
     R.dsubst_pair from "(dsubst A K S P) (dsubst B K S Q)" to "(dsubst (pair A B) K S (pair P Q))" ∷
     R.dsubst_fst from "(dsubst P K S Q)" to "(dsubst (fst P) K S (fst Q))" ∷
     R.dsubst_snd from "(dsubst P K S Q)" to "(dsubst (snd P) K S (snd Q))" ∷
+    R.iend_0 from "" to "(iend i0 i0)" ∷
+    R.iend_1 from "" to "(iend i1 i1)" ∷
+    R.iend_neg from "(iend R i0)" to "(iend (neg R) i1)" ∷
+    R.iend_neg from "(iend R i1)" to "(iend (neg R) i0)" ∷
+    R.iend_meet from "(iend R i0)" to "(iend (meet R W) i0)" ∷
+    R.iend_meet from "(iend W i0)" to "(iend (meet R W) i0)" ∷
+    R.iend_meet from "(iend R i1) (iend W i1)" to "(iend (meet R W) i1)" ∷
+    R.iend_join from "(iend R i1)" to "(iend (join R W) i1)" ∷
+    R.iend_join from "(iend W i1)" to "(iend (join R W) i1)" ∷
+    R.iend_join from "(iend R i0) (iend W i0)" to "(iend (join R W) i0)" ∷
+    R.eq_p0_val from "(iend R i0) (has D G P (path A B C)) (interval D R) (dsubst A 0 R E) (has D G B E)" to "(eq D G (papp P R) B E)" ∷
+    R.eq_p1_val from "(iend R i1) (has D G P (path A E C)) (interval D R) (dsubst A 0 R B) (has D G C B)" to "(eq D G (papp P R) C B)" ∷
     -- end of rules
     []

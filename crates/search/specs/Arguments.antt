@@ -2,8 +2,8 @@
 use Rattle.std.specs.Prelude.{ℕ, suc, ◌+◌, ◌<◌, ◌≤◌, ◌≡◌, refl, List, [], ◌∷◌, length, get_or}
 use Rattle.std.proofs.Math.Option.{some}
 use Rattle.std.proofs.Common.{add-zero, arith}
-use Rattle.walk.specs.Judgment.{Judgment, kind, Argument, number, of_interval, of_quote, of_context, arguments, ctx, dshiftctx, lookup, lt, le, max, interval, ishift, isubst, shift, subst, dshift, dsubst, has, eq}
-use Rattle.link.specs.Table.{◌>>=◌, an_interval, a_quote, a_context, Reads, no_reading, readings, read_ctx, read_dshiftctx, read_lookup, read_lt, read_le, read_max, read_interval, read_ishift, read_isubst, read_shift, read_subst, read_dshift, read_dsubst, read_has, read_eq}
+use Rattle.walk.specs.Judgment.{Judgment, kind, Argument, number, of_interval, of_quote, of_context, arguments, ctx, dshiftctx, lookup, lt, le, max, interval, ishift, isubst, shift, subst, dshift, dsubst, has, eq, iend}
+use Rattle.link.specs.Table.{◌>>=◌, an_interval, a_quote, a_context, Reads, no_reading, readings, read_ctx, read_dshiftctx, read_lookup, read_lt, read_le, read_max, read_interval, read_ishift, read_isubst, read_shift, read_subst, read_dshift, read_dsubst, read_has, read_eq, read_iend}
 use Rattle.search.specs.Newest.{asked, ArgumentWord, LowestWords}
 use Rattle.search.specs.Shown.{bound, some_is, none_some}
 
@@ -87,6 +87,10 @@ told_eq : (C : List ℕ) (j : Judgment) (m a b c d e : ℕ) → read_eq m C a b 
 unfolding read_eq
 told_eq _ _ _ _ _ _ _ _ e = let x = bound _ _ e in let y = bound _ _ x.next in let z = bound _ _ y.next in let w = bound _ _ z.next in at_judgment (some_is w.next) (record { is = refl; all = refl then x.is then y.is then z.is then w.is then none_left })
 
+told_iend : (C : List ℕ) (j : Judgment) (m a b c d e : ℕ) → read_iend m C a b c d e ≡ some j → Told 15 m C a b c d e j
+unfolding read_iend
+told_iend _ _ _ _ _ _ _ _ e = let x = bound _ _ e in let y = bound _ _ x.next in at_judgment (some_is y.next) (record { is = refl; all = x.is then y.is then none_left })
+
 -- end of what a reading tells
 
 -- each reading of the table
@@ -101,7 +105,7 @@ data Each : ℕ → List Reads → Type 0 where
 
 readings_tell : Each 0 readings
 -- written by tools/written.py: each reading
-readings_tell = told_ctx also told_dshiftctx also told_lookup also told_lt also told_le also told_max also told_interval also told_ishift also told_isubst also told_shift also told_subst also told_dshift also told_dsubst also told_has also told_eq also no_more
+readings_tell = told_ctx also told_dshiftctx also told_lookup also told_lt also told_le also told_max also told_interval also told_ishift also told_isubst also told_shift also told_subst also told_dshift also told_dsubst also told_has also told_eq also told_iend also no_more
 
 -- end of each reading
 
@@ -115,7 +119,7 @@ pub told : {k m : ℕ} {C : List ℕ} {a b c d e : ℕ} {j : Judgment} → asked
 told {k} {m} {C} {a} {b} {c} {d} {e} {j} q = rw add-zero at (each_tells readings_tell k C j m a b c d e q)
 
 pub arguments_asked : (j : Judgment) (m : ℕ) (C : List ℕ) (a b c d e : ℕ) → ReadAll m C (arguments j) (a ∷ b ∷ c ∷ d ∷ e ∷ []) → asked m C (kind j) a b c d e ≡ some j
-unfolding read_ctx read_dshiftctx read_lookup read_lt read_le read_max read_interval read_ishift read_isubst read_shift read_subst read_dshift read_dsubst read_has read_eq ◌>>=◌
+unfolding read_ctx read_dshiftctx read_lookup read_lt read_le read_max read_interval read_ishift read_isubst read_shift read_subst read_dshift read_dsubst read_has read_eq read_iend ◌>>=◌
 -- written by tools/written.py: read by its arguments
 arguments_asked (ctx d g) _ _ _ _ _ _ _ (h0 then h1 then none_left) = rw (h0, h1)
 arguments_asked (dshiftctx g k h) _ _ _ _ _ _ _ (h0 then h1 then h2 then none_left) = rw (h0, h1, h2)
@@ -132,6 +136,7 @@ arguments_asked (dshift t k t') _ _ _ _ _ _ _ (h0 then h1 then h2 then none_left
 arguments_asked (dsubst t k r t') _ _ _ _ _ _ _ (h0 then h1 then h2 then h3 then none_left) = rw (h0, h1, h2, h3)
 arguments_asked (has d g t A) _ _ _ _ _ _ _ (h0 then h1 then h2 then h3 then none_left) = rw (h0, h1, h2, h3)
 arguments_asked (eq d g a b A) _ _ _ _ _ _ _ (h0 then h1 then h2 then h3 then h4 then none_left) = rw (h0, h1, h2, h3, h4)
+arguments_asked (iend r e) _ _ _ _ _ _ _ (h0 then h1 then none_left) = rw (h0, h1)
 
 -- end of read by its arguments
 
@@ -169,6 +174,7 @@ few (dshift t k t') = omega arith
 few (dsubst t k r t') = omega arith
 few (has d g t A) = omega arith
 few (eq d g a b A) = omega arith
+few (iend r e) = omega arith
 
 -- end of few arguments
 

@@ -21,7 +21,7 @@ use Rattle.link.specs.Lists.{Nth, nth_below, first, first_passes, blocks_length,
 use Rattle.link.specs.Lists as L
 use Rattle.link.specs.Things.{Shown, shown?, show, shows, Low}
 use Rattle.link.proofs.Things.{is_low}
-use Rattle.link.specs.Tables.{Spoken, j_ctx, j_dshiftctx, j_lookup, j_lt, j_le, j_max, j_interval, j_ishift, j_isubst, j_shift, j_subst, j_dshift, j_dsubst, j_has, j_eq}
+use Rattle.link.specs.Tables.{Spoken, j_ctx, j_dshiftctx, j_lookup, j_lt, j_le, j_max, j_interval, j_ishift, j_isubst, j_shift, j_subst, j_dshift, j_dsubst, j_has, j_eq, j_iend}
 use Rattle.link.specs.Store.{Line, line}
 use Rattle.link.specs.Holds.{Before, Holds, nth_of}
 use Rattle.link.specs.Table.{◌>>=◌, kind_word, lower, ckinds, interval_at, quote_at, context_at, row_word, cell_words, words_at, CellsWords, argument_word, TableWords}
@@ -141,6 +141,7 @@ spoken_kind (j_dshift h0 h1) = refl
 spoken_kind (j_dsubst h0 h1 h2) = refl
 spoken_kind (j_has h0 h1 h2) = refl
 spoken_kind (j_eq h0 h1 h2 h3) = refl
+spoken_kind (j_iend h0 h1) = refl
 
 -- end of kinds of judgments
 

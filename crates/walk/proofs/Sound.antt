@@ -2,6 +2,7 @@
 -- A module below for each concern, as in Walk; a body's proof is one line a line of the body.
 pub mod Numbers
 pub mod Intervals
+pub mod Endpoints
 pub mod Transforms
 pub mod Contexts
 pub mod Typing
@@ -13,6 +14,7 @@ use Rattle.walk.specs.Sound.Logic.{lift, refusing, entering}
 use Rattle.walk.specs.Sound.Says.{Sound}
 use Rattle.walk.proofs.Sound.Numbers.{comparison_sound, max_sound}
 use Rattle.walk.proofs.Sound.Intervals.{itransform_sound, interval_sound}
+use Rattle.walk.proofs.Sound.Endpoints.{endpoint_sound}
 use Rattle.walk.proofs.Sound.Transforms.{under_sound, transform_sound}
 use Rattle.walk.proofs.Sound.Contexts.{dshiftctx_sound, ctx_sound, lookup_sound}
 use Rattle.walk.proofs.Sound.Typing.{expose_sound, universe_sound, check_sound, infer_sound}
@@ -35,6 +37,7 @@ entered_sound n c S = record {
   itransform = λ r op. entering n _ λ _ _. itransform_sound c S r op;
   under = λ op dimension. entering n _ λ _ _. under_sound c S op dimension;
   interval = λ d r. entering n _ λ _ _. interval_sound c S d r;
+  endpoint = λ r. entering n _ λ _ _. endpoint_sound c S r;
   comparison = λ m k strict. entering n _ λ _ _. comparison_sound c S m k strict;
   max = λ m k. entering n _ λ _ _. max_sound c S m k;
   more = S.more;
@@ -57,6 +60,7 @@ none_left_sound = record {
   itransform = λ r op. refusing (lit< tt);
   under = λ op dimension. refusing (lit< tt);
   interval = λ d r. refusing (lit< tt);
+  endpoint = λ r. refusing (lit< tt);
   comparison = λ m k strict. refusing (lit< tt);
   max = λ m k. refusing (lit< tt);
   more = λ n. refl;

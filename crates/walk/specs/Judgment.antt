@@ -36,6 +36,8 @@ pub data Judgment : Type 0 where
   has : ℕ → Quotes → Quote → Quote → Judgment
   -- eq d g a b A: a and b are equal at the type A
   eq : ℕ → Quotes → Quote → Quote → Quote → Judgment
+  -- iend r e: r works out to the end e
+  iend : Interval → Interval → Judgment
   -- end of judgments
   deriving Discrete as JudgmentDiscrete
 
@@ -60,6 +62,7 @@ kind (dshift t k t') = 11
 kind (dsubst t k r t') = 12
 kind (has d g t A) = 13
 kind (eq d g a b A) = 14
+kind (iend r e) = 15
 
 -- end of kinds of judgments
 
@@ -87,5 +90,6 @@ arguments (dshift t k t') = of_quote t ∷ number k ∷ of_quote t' ∷ []
 arguments (dsubst t k r t') = of_quote t ∷ number k ∷ of_interval r ∷ of_quote t' ∷ []
 arguments (has d g t A) = number d ∷ of_context g ∷ of_quote t ∷ of_quote A ∷ []
 arguments (eq d g a b A) = number d ∷ of_context g ∷ of_quote a ∷ of_quote b ∷ of_quote A ∷ []
+arguments (iend r e) = of_interval r ∷ of_interval e ∷ []
 
 -- end of arguments

@@ -19,4 +19,5 @@ pub mod Opened
 pub mod Examples
 pub mod Pairs
 pub mod Many
+pub mod Endpoints
 pub mod Made

@@ -354,6 +354,27 @@ dsubst_fst = 115
 abbrev pub dsubst_snd : ℕ
 dsubst_snd = 116
 
+abbrev pub iend_0 : ℕ
+iend_0 = 117
+
+abbrev pub iend_1 : ℕ
+iend_1 = 118
+
+abbrev pub iend_neg : ℕ
+iend_neg = 119
+
+abbrev pub iend_meet : ℕ
+iend_meet = 120
+
+abbrev pub iend_join : ℕ
+iend_join = 121
+
+abbrev pub eq_p0_val : ℕ
+eq_p0_val = 122
+
+abbrev pub eq_p1_val : ℕ
+eq_p1_val = 123
+
 -- The judgments by number, as Judgment's `kind` has them.
 abbrev ctx : ℕ
 ctx = 0
@@ -399,6 +420,9 @@ has = 13
 
 abbrev eq : ℕ
 eq = 14
+
+abbrev iend : ℕ
+iend = 15
 
 -- Every rule with its name, as the listing prints it, and the kind of judgment that it concludes (proved in Concludes).
 pub record Named : Type 0 where
@@ -529,11 +553,18 @@ rules =
     (dsubst_pair named "dsubst.pair" concludes dsubst) ∷
     (dsubst_fst named "dsubst.fst" concludes dsubst) ∷
     (dsubst_snd named "dsubst.snd" concludes dsubst) ∷
+    (iend_0 named "iend.0" concludes iend) ∷
+    (iend_1 named "iend.1" concludes iend) ∷
+    (iend_neg named "iend.neg" concludes iend) ∷
+    (iend_meet named "iend.meet" concludes iend) ∷
+    (iend_join named "iend.join" concludes iend) ∷
+    (eq_p0_val named "eq.p0-val" concludes eq) ∷
+    (eq_p1_val named "eq.p1-val" concludes eq) ∷
     []
 
 -- How many there are.
 abbrev pub rule_count : ℕ
-rule_count = 117
+rule_count = 124
 
 -- A number that is no rule has an empty name, and concludes a kind that no judgment has.
 abbrev pub no_rule : Named

@@ -1,5 +1,5 @@
 -- What follows by a rule: `Follows n js j` says that rule n takes the premises js, in this order, to j.
--- One constructor for each rule.
+-- One constructor for each rule; for one with several lists of premises, one for each of these.
 --
 -- Each group below says which rules of CCHM it is, and what it adds; or that it is the source's alone. Figure 1 of CCHM has the rules of
 -- its section 2, the basic type theory, and Figure 2 those of its section 3, path types. What differs throughout is not said again at each
@@ -7,7 +7,7 @@
 -- (docs/DIFFERENCES.md, "From CCHM").
 use Rattle.std.specs.Prelude.{ℕ, suc, List, [], ◌∷◌}
 use Rattle.walk.specs.Syntax.{Interval, I0, I1, Dim, Neg, Meet, Join, Quote, u, v, nat, zero, pi, lam, app, path, plam, papp, sigma, pair, fst, snd, Quotes, nil, cons}
-use Rattle.walk.specs.Judgment.{Judgment, ctx, dshiftctx, lookup, lt, le, max, interval, ishift, isubst, shift, subst, dshift, dsubst, has, eq}
+use Rattle.walk.specs.Judgment.{Judgment, ctx, dshiftctx, lookup, lt, le, max, interval, ishift, isubst, shift, subst, dshift, dsubst, has, eq, iend}
 use Rattle.walk.specs.Rule as R
 
 pub data Follows : ℕ → List Judgment → Judgment → Type 0 where
@@ -333,3 +333,36 @@ pub data Follows : ℕ → List Judgment → Judgment → Type 0 where
   by_dsubst_pair : {a a' b b' : Quote} {k : ℕ} {q : Interval} → Follows R.dsubst_pair (dsubst a k q a' ∷ dsubst b k q b' ∷ []) (dsubst (pair a b) k q (pair a' b'))
   by_dsubst_fst : {p p' : Quote} {k : ℕ} {q : Interval} → Follows R.dsubst_fst (dsubst p k q p' ∷ []) (dsubst (fst p) k q (fst p'))
   by_dsubst_snd : {p p' : Quote} {k : ℕ} {q : Interval} → Follows R.dsubst_snd (dsubst p k q p' ∷ []) (dsubst (snd p) k q (snd p'))
+  -- iend: the source's alone as a judgment. The laws of the De Morgan algebra 𝕀 of section 3 by which r is 0 or 1, whatever its names are.
+  -- neg turns an end round; 0 decides a meet and 1 a join from either side, else both sides are cited
+  by_iend_0 : Follows R.iend_0 [] (iend I0 I0)
+  by_iend_1 : Follows R.iend_1 [] (iend I1 I1)
+  by_iend_neg_0 : {r : Interval} → Follows R.iend_neg (iend r I0 ∷ []) (iend (Neg r) I1)
+  by_iend_neg_1 : {r : Interval} → Follows R.iend_neg (iend r I1 ∷ []) (iend (Neg r) I0)
+  by_iend_meet_0 : {r s : Interval} → Follows R.iend_meet (iend r I0 ∷ []) (iend (Meet r s) I0)
+  by_iend_meet_1 : {r s : Interval} → Follows R.iend_meet (iend s I0 ∷ []) (iend (Meet r s) I0)
+  by_iend_meet_2 : {r s : Interval} → Follows R.iend_meet (iend r I1 ∷ iend s I1 ∷ []) (iend (Meet r s) I1)
+  by_iend_join_0 : {r s : Interval} → Follows R.iend_join (iend r I1 ∷ []) (iend (Join r s) I1)
+  by_iend_join_1 : {r s : Interval} → Follows R.iend_join (iend s I1 ∷ []) (iend (Join r s) I1)
+  by_iend_join_2 : {r s : Interval} → Follows R.iend_join (iend r I0 ∷ iend s I0 ∷ []) (iend (Join r s) I0)
+  -- p0-val, p1-val: the equations of Figure 2 for p 0 and p 1, at an interval that works out to the end. Added: as at p0 and p1, for A(i/r)
+  by_eq_p0_val :
+      {d : ℕ} {g : Quotes} {p A b c B : Quote} {r : Interval} →
+      Follows R.eq_p0_val
+      (iend r I0
+      ∷ has d g p (path A b c)
+      ∷ interval d r
+      ∷ dsubst A 0 r B
+      ∷ has d g b B
+      ∷ [])
+      (eq d g (papp p r) b B)
+  by_eq_p1_val :
+      {d : ℕ} {g : Quotes} {p A b c B : Quote} {r : Interval} →
+      Follows R.eq_p1_val
+      (iend r I1
+      ∷ has d g p (path A b c)
+      ∷ interval d r
+      ∷ dsubst A 0 r B
+      ∷ has d g c B
+      ∷ [])
+      (eq d g (papp p r) c B)

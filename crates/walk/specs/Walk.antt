@@ -1,8 +1,9 @@
--- The walk: the sixteen reference functions of producer.rs. Each body stands in a module below, over the functions that
+-- The walk: the sixteen reference functions of producer.rs, and `endpoint`. Each body stands in a module below, over the functions that
 -- it calls; `callees n` are the functions with n entries left, so that one number falls and nothing else recurses.
 pub mod Reference
 pub mod Numbers
 pub mod Intervals
+pub mod Endpoints
 pub mod Transforms
 pub mod Contexts
 pub mod Typing
@@ -13,6 +14,7 @@ use Rattle.walk.specs.State.{M, pure, refuse, of_interval, of_term, of_context, 
 unfoldable pub use Reference.*
 unfoldable pub use Numbers.*
 unfoldable pub use Intervals.*
+unfoldable pub use Endpoints.*
 unfoldable pub use Transforms.*
 unfoldable pub use Contexts.*
 unfoldable pub use Typing.*
@@ -35,6 +37,7 @@ none_left more = record {
   itransform = λ r op. refuse Refusal.nesting;
   under = λ op dimension. refuse Refusal.nesting;
   interval = λ d r. refuse Refusal.nesting;
+  endpoint = λ r. refuse Refusal.nesting;
   comparison = λ m n strict. refuse Refusal.nesting;
   max = λ m n. refuse Refusal.nesting;
   more = more;
@@ -57,6 +60,7 @@ entered n c = record {
   itransform = λ r op. enter n (of_interval r ++ of_iop op) (itransform_body c r op);
   under = λ op dimension. enter n (of_op op) (under_body c op dimension);
   interval = λ d r. enter n (of_interval r) (interval_body c d r);
+  endpoint = λ r. enter n (of_interval r) (endpoint_body c r);
   comparison = λ m k strict. enter n [] (comparison_body c m k strict);
   max = λ m k. enter n [] (max_body c m k);
   more = c.more;

@@ -34,6 +34,7 @@ compare play SIDE KIND TIMES      one process of these: program, source or count
     --full        every run in 50,000 rows, at the highest nesting limit
     --pairs       runs with pair types
     --many        runs with pair types, and calls with many types
+    --ends        these, and long endpoints
     --work STEPS  gives a run up where the oracle takes more (10,000,000)
     --threads N   (2)
     --cuts N      each run cut after each of its first N calls too (0)
@@ -176,6 +177,7 @@ fn asked(words: &[&str]) -> Option<Asked> {
             "--full" => asked.full = true,
             "--pairs" => asked.terms = Terms::Pairs,
             "--many" => asked.terms = Terms::Many,
+            "--ends" => asked.terms = Terms::Ends,
             "--work" => asked.work = words.next()?.parse().ok()?,
             "--threads" => asked.threads = words.next()?.parse().ok()?,
             "--cuts" => asked.cuts = words.next()?.parse().ok()?,

@@ -19,6 +19,9 @@ pub struct Tally {
     pub inside: u64,
     pub never_full: u64,
     pub outside: u64,
+    /// Runs that work an endpoint out, and their calls from the first that does on:
+    /// the Rust has no answers to these.
+    pub worked_out: [u64; 2],
     pub calls: u64,
     pub rows: u64,
     pub cells: u64,
@@ -42,6 +45,7 @@ impl Default for Tally {
             inside: 0,
             never_full: 0,
             outside: 0,
+            worked_out: [0; 2],
             calls: 0,
             rows: 0,
             cells: 0,
@@ -70,6 +74,9 @@ impl Tally {
         if ran.number != 0 {
             self.numbers[usize::from(ran.number)] += 1;
             return;
+        }
+        if ran.by_source < ran.answers.len() {
+            add(&mut self.worked_out, &[1, (ran.answers.len() - ran.by_source) as u64]);
         }
         let met = |number| ran.answers.iter().any(|answer| answer.number == number);
         let full_table = slices[0] / 24 >= ROWS;
@@ -102,6 +109,7 @@ impl Tally {
         self.cells += other.cells;
         self.uncut += other.uncut;
         self.deepest = self.deepest.max(other.deepest);
+        add(&mut self.worked_out, &other.worked_out);
         add(&mut self.cuts, &other.cuts);
         add(&mut self.numbers, &other.numbers);
         add(&mut self.rules, &other.rules);
@@ -137,6 +145,8 @@ impl Tally {
         writeln!(out, "  shorter table, never full, no 19 or 20: {}", self.never_full)?;
         writeln!(out, "  outside the Rust's: 19, 20, or 18 in a shorter table: {}", self.outside)?;
         writeln!(out, "  refused as a whole: {}", self.refused())?;
+        let [worked, alone] = self.worked_out;
+        writeln!(out, "endpoints worked out in runs {worked}; calls from there on {alone}")?;
         let places = &self.slow_places;
         writeln!(out, "runs left out, too slow for the oracle {} at {places:?}", self.slow)?;
         writeln!(out, "calls {} accepted {}", self.calls, self.numbers[0])?;

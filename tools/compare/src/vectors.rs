@@ -44,7 +44,7 @@ struct Vector {
 pub fn write(seed: u64, folder: &Path) -> Result<String> {
     let mut sides = Sides::new(10_000_000, 0);
     let mut chosen = Vec::new();
-    for terms in [Terms::Plain, Terms::Pairs, Terms::Many] {
+    for terms in [Terms::Plain, Terms::Pairs, Terms::Many, Terms::Ends] {
         chosen.append(&mut by_hand(&mut sides, terms));
         by_chance(&mut Sides::new(BRIEF, 0), terms, seed, &mut chosen);
     }
@@ -106,12 +106,13 @@ fn vector(sides: &mut Sides, name: String, mut case: Case) -> Option<Vector> {
     Some(Vector { name, case, ran, text })
 }
 
-/// The name of a stored run: with pairs or many types it says so.
+/// The name of a stored run: with pairs, many types or long endpoints, it says so.
 fn named(terms: Terms, name: String) -> String {
     match terms {
         Terms::Plain => name,
         Terms::Pairs => format!("pairs {name}"),
         Terms::Many => format!("many {name}"),
+        Terms::Ends => format!("ends {name}"),
     }
 }
 
@@ -161,9 +162,7 @@ fn known() -> Vec<(String, Case)> {
 /// ones with the shortest text, then a sample.
 fn by_chance(sides: &mut Sides, terms: Terms, seed: u64, chosen: &mut Vec<Vector>) {
     let mut some: Vec<Vector> = (0..PLACES)
-        .map(|place| {
-            (named(terms, format!("{seed}/{place}")), generator::case(terms, seed, place))
-        })
+        .map(|place| (named(terms, format!("{seed}/{place}")), generator::case(terms, seed, place)))
         .filter_map(|(name, case)| vector(sides, name, case))
         .filter(|v| v.text.len() <= LONGEST && v.case.bytes.len() < 2_000)
         .collect();

@@ -4,6 +4,7 @@ mod bench;
 mod calls;
 mod damage;
 mod edges;
+mod ends;
 mod kinds;
 mod large;
 mod many;
@@ -26,5 +27,6 @@ pub fn seeds(terms: Terms) -> Vec<Case> {
         Terms::Plain => seeds::cases(),
         Terms::Pairs => pairs::cases(),
         Terms::Many => many::cases(),
+        Terms::Ends => ends::cases(),
     }
 }

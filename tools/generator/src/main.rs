@@ -1,6 +1,7 @@
 //! Writes runs as a batch: those at COUNT places from FIRST on under SEED (with
 //! sweep, each in many slices), those written by hand, or all short ones; with
-//! --pairs such that have pairs, with --many calls with many types too.
+//! --pairs such that have pairs, with --many calls with many types too, with --ends
+//! long endpoints besides.
 use generator::Terms;
 use std::io::{self, BufWriter, Write};
 use std::process::ExitCode;
@@ -8,9 +9,9 @@ use std::process::ExitCode;
 type Cases = Box<dyn Iterator<Item = generator::Case>>;
 
 const USAGE: &str = "\
-generator [--pairs | --many] [sweep] SEED COUNT [FIRST]
-generator [--pairs | --many] seeds
-generator [--pairs | --many] short LENGTH
+generator [--pairs | --many | --ends] [sweep] SEED COUNT [FIRST]
+generator [--pairs | --many | --ends] seeds
+generator [--pairs | --many | --ends] short LENGTH
 ";
 
 fn main() -> ExitCode {
@@ -35,6 +36,7 @@ fn cases(words: &[String]) -> Option<Cases> {
     let terms = match words.first().map(String::as_str) {
         Some("--pairs") => Terms::Pairs,
         Some("--many") => Terms::Many,
+        Some("--ends") => Terms::Ends,
         _ => Terms::Plain,
     };
     let words = &words[usize::from(terms != Terms::Plain)..];

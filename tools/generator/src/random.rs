@@ -9,6 +9,8 @@ pub enum Terms {
     Pairs,
     /// These, and calls with many types.
     Many,
+    /// These, and intervals that work out to an end, written long.
+    Ends,
 }
 
 pub struct Random {
@@ -38,7 +40,12 @@ impl Random {
 
     /// Whether calls with many types may be made.
     pub fn many(&self) -> bool {
-        self.terms == Terms::Many
+        matches!(self.terms, Terms::Many | Terms::Ends)
+    }
+
+    /// Whether ends are written long.
+    pub fn ends(&self) -> bool {
+        self.terms == Terms::Ends
     }
 
     /// A number below `plain`, or below `plain + more` where pairs may be made.

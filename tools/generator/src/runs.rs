@@ -5,7 +5,7 @@ use crate::term::{
     app, fst, lam, neg, pair, papp, path, pi, plam, sigma, snd, Interval, Term, LETTERS,
 };
 use crate::typed::{Maker, Scope};
-use crate::{damage, edges, many, pairs, shapes};
+use crate::{damage, edges, ends as long_ends, many, pairs, shapes};
 use Interval::{I0, I1};
 use Term::{Nat, Zero, U, V};
 
@@ -46,6 +46,9 @@ fn noise(random: &mut Random) -> Case {
 }
 
 fn some_calls(random: &mut Random) -> Vec<Call> {
+    if random.ends() && random.chance(1, 2) {
+        return if random.chance(1, 2) { ends(random) } else { long_ends::calls(random) };
+    }
     if random.many() && random.chance(1, 2) {
         return many::calls(random);
     }

@@ -95,6 +95,10 @@ impl Maker<'_> {
     }
 
     pub fn interval(&mut self, d: usize, fuel: usize) -> Interval {
+        if fuel > 0 && self.0.ends() && self.0.chance(1, 2) {
+            let one = self.0.chance(1, 2);
+            return self.long(one, d, fuel + 1);
+        }
         let kinds = if fuel == 0 { 3 } else { 6 };
         match self.0.below(kinds) {
             0 => I0,
@@ -104,6 +108,24 @@ impl Maker<'_> {
             3 => neg(self.interval(d, fuel - 1)),
             4 => meet(self.interval(d, fuel - 1), self.interval(d, fuel - 1)),
             _ => join(self.interval(d, fuel - 1), self.interval(d, fuel - 1)),
+        }
+    }
+
+    /// One that works out to an end: by its left part, by its right one, by both.
+    pub fn long(&mut self, one: bool, d: usize, fuel: usize) -> Interval {
+        if fuel == 0 {
+            return if one { I1 } else { I0 };
+        }
+        let less = fuel - 1;
+        let decided = if one { join } else { meet };
+        match self.0.below(5) {
+            0 | 1 => neg(self.long(!one, d, less)),
+            2 => decided(self.long(one, d, less), self.interval(d, less)),
+            3 => decided(self.interval(d, less), self.long(one, d, less)),
+            _ => {
+                let both = if one { meet } else { join };
+                both(self.long(one, d, less), self.long(one, d, less))
+            }
         }
     }
 

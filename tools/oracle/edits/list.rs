@@ -148,6 +148,26 @@ const PRODUCER: &[Step] = &[
             "Fst(..) | Snd(..) => self.sigma_reduce((d, g), t),",
         ),
     ),
+    // LONG ENDS, which the source has not (src/cubical/producer/endpoints.rs): the
+    // interval of a papp is worked out before anything else of it, and the papp
+    // goes to an end that is found. Where none is, the source's lines go on.
+    Step(
+        "fn reduce_source(",
+        Put(
+            "PathApp(p, r) => {",
+            "PathApp(p, r) => {\n                let end = self.long_end(p, r)?;",
+        ),
+    ),
+    Step(
+        "fn reduce_source(",
+        Put(
+            "let (ty, sub_ty) = self.transform(&a, &Op::DSubst(0, r.clone()))?;",
+            "if let Some(end) = end {
+                    return self.at_end((d, g), t, r, [&a, &b, &c], path_id, end);
+                }
+                let (ty, sub_ty) = self.transform(&a, &Op::DSubst(0, r.clone()))?;",
+        ),
+    ),
     // A result takes cells just before the row that names it.
     Step(
         "fn itransform_source(",

@@ -20,6 +20,7 @@ pub mod producer {
     }
 
     // Ours, below the source's module so that they see its private names.
+    mod endpoints;
     pub mod play;
     mod watched;
 }

@@ -104,12 +104,13 @@ pub const JUDGMENTS: &[(&str, &[Sort])] = &[
     ("dsubst", &[Term, Number, Interval, Term]),
     ("has", &[Number, Context, Term, Term]),
     ("eq", &[Number, Context, Term, Term, Term]),
+    ("iend", &[Interval, Interval]),
 ];
 // end of judgments
 
 /// The rules by number: the name, and the number of the judgment concluded.
 // written by tools/written.py: rules
-pub const RULES: [(&str, usize); 117] = [
+pub const RULES: [(&str, usize); 124] = [
     ("ctx.nil", 0),
     ("ctx.cons", 0),
     ("dshiftctx.nil", 1),
@@ -227,6 +228,13 @@ pub const RULES: [(&str, usize); 117] = [
     ("dsubst.pair", 12),
     ("dsubst.fst", 12),
     ("dsubst.snd", 12),
+    ("iend.0", 15),
+    ("iend.1", 15),
+    ("iend.neg", 15),
+    ("iend.meet", 15),
+    ("iend.join", 15),
+    ("eq.p0-val", 14),
+    ("eq.p1-val", 14),
 ];
 // end of rules
 
@@ -248,7 +256,7 @@ pub const LAST_REFUSAL: usize = 23;
 /// its kinds, and where the rules and refusals before it end.
 // written by tools/written.py: ahead of the program
 pub const AHEAD_KINDS: [u8; 0] = [];
-pub const LANDED_RULES: usize = 117;
+pub const LANDED_RULES: usize = 124;
 pub const LANDED_REFUSAL: usize = 23;
 // end of ahead of the program
 

@@ -68,6 +68,9 @@ pub struct Ran {
     pub cells: u32,
     pub answers: Vec<Answer>,
     pub rows: Vec<Row>,
+    /// How many calls the source answers too, as far as ends that are worked out go:
+    /// those before the first that enters `endpoint`.
+    pub by_source: usize,
     /// Each cell's kind and parts, and what is remembered: cell, type's cell, row.
     pub nodes: Vec<Node>,
     pub remembered: Vec<[u32; 3]>,
@@ -94,20 +97,19 @@ pub fn play(bytes: &[u8], slices: Slices, options: &Options) -> Option<Ran> {
     }
     let row_room = MAX_ROWS.min(slices.rows as usize / 24);
     let mut player = Player::new(limit, row_room, slices.cells / 8, options);
-    let mut counts = Vec::new();
-    let mut answer = |call| {
-        let answer = player.answer(call);
+    let (mut answers, mut counts, mut by_source) = (Vec::new(), Vec::new(), 0);
+    for call in &calls {
+        answers.push(player.answer(call)?);
         counts.push(player.row_count());
-        answer
-    };
-    let answers = calls.iter().map(&mut answer).collect::<Option<_>>()?;
+        by_source += usize::from(!player.worked_out());
+    }
     let (cells, mut nodes, mut remembered) = (player.cells(), Vec::new(), Vec::new());
     if options.counting {
         remembered = player.remembered();
         nodes = player.nodes();
     }
     let rows = player.rows(|row| counts.partition_point(|count| *count <= row));
-    Some(Ran { number: 0, place: 0, cells, answers, rows, nodes, remembered })
+    Some(Ran { number: 0, place: 0, cells, answers, rows, by_source, nodes, remembered })
 }
 
 /// Runs `f` on a stack as large as the source's own, where 4,096 nested

@@ -14,6 +14,8 @@ pub struct Watch {
     pub cells: Cells,
     /// Off for timings of the plain source: no cell is counted then.
     pub counting: bool,
+    /// Whether `endpoint` was entered: from that call on the source has no answers.
+    pub worked_out: bool,
     /// Entries still allowed; with none left the run is given up.
     pub work_left: u64,
 }

@@ -32,7 +32,7 @@ fn met(text: &str, name: &str) -> BTreeSet<u32> {
 
 #[test]
 fn pairs_as_the_reference_has_them() {
-    let level = Level::new(1).unwrap();
+    let level = Level::new(5).unwrap();
     let made = (0..RUNS).map(|place| case(Terms::Pairs, 2033, place));
     let (mut rules, mut numbers) = (BTreeSet::new(), BTreeSet::new());
     on_large_stack(|| {

@@ -1,16 +1,16 @@
 -- The rows of normalize, equal and reduce state what they should.
-use Rattle.std.specs.Prelude.{ℕ, suc, ◌≡◌, List, [], ◌∷◌}
+use Rattle.std.specs.Prelude.{ℕ, ◌≡◌, List, [], ◌∷◌, ◌++◌}
 use Rattle.std.proofs.Math.Path.{subst as along}
 use Rattle.std.proofs.Common.{ap, lit<}
 use Rattle.std.proofs.Math.Option.{none}
 use Rattle.walk.specs.Syntax.{quote, quote?, Interval, I0, I1, Dim, Neg, Meet, Join, Term, Universe, Var, Nat, Zero, Pi, Lam, App, Path, PathLam, PathApp, Sigma, Pair, Fst, Snd, Context, Cons, Quote, path, plam, papp, Quotes}
-use Rattle.walk.specs.Judgment.{Judgment, interval, dsubst, has, eq}
-use Rattle.walk.specs.Rules.{Follows, by_eq_refl, by_eq_sym, by_eq_trans, by_eq_beta, by_eq_pbeta, by_eq_p0, by_eq_p1, by_eq_fst_beta, by_eq_snd_beta}
+use Rattle.walk.specs.Judgment.{Judgment, interval, dsubst, has, eq, iend}
+use Rattle.walk.specs.Rules.{Follows, by_eq_refl, by_eq_sym, by_eq_trans, by_eq_beta, by_eq_pbeta, by_eq_p0, by_eq_p1, by_eq_fst_beta, by_eq_snd_beta, by_eq_p0_val, by_eq_p1_val}
 use Rattle.walk.specs.State.{Row}
-use Rattle.walk.specs.Walk.{Subst, DSubst, Callees, typing, level, pi_parts, lam_parts, path_parts, plam_parts, sigma_parts, pair_parts, equation, beta, at_end, pbeta, ends, fst_beta, snd_beta, reduce_body, rounds, normalize_body, equal_body}
-use Rattle.walk.specs.Demand.{At, none_cited, ◌also◌, same}
+use Rattle.walk.specs.Walk.{Subst, DSubst, End, E0, E1, Callees, literal, typing, lam_parts, plam_parts, pair_parts, equation, beta, at_end, pbeta, ends, along as along_of, written, long_end, side, val_rule, at_val, fst_beta, snd_beta, reduce_body, rounds, normalize_body, equal_body}
+use Rattle.walk.specs.Demand.{At, Cites, none_cited, ◌also◌, same}
 use Rattle.walk.specs.Sound.Logic.{lift, ◌and◌by◌, bind, refusing, giving, branch, cases, emitted, Keeps}
-use Rattle.walk.specs.Sound.Says.{Stepped, Sound}
+use Rattle.walk.specs.Sound.Says.{Stepped, Ended, Sound}
 use Rattle.walk.specs.Sound.Parts.{lam_is, plam_is, pair_is}
 use Rattle.walk.proofs.Sound.Typing.{as_path_sound, as_sigma_sound}
 use Rattle.walk.specs.Rule as R
@@ -21,6 +21,11 @@ pbeta_rule q = rw q by_eq_pbeta
 
 refl_rule : {d : ℕ} {g : Quotes} {a b A : Quote} → a ≡ b → Follows R.eq_refl (has d g a A ∷ []) (eq d g a b A)
 refl_rule q = rw q by_eq_refl
+
+-- the rule at an end
+val_follows : {d : ℕ} {g : Quotes} {p : Quote} {r : Interval} (e : End) (A b f B : Term) → Follows (val_rule e) (iend r (literal e) ∷ has d g p (path (quote A) (quote b) (quote f)) ∷ interval d r ∷ dsubst (quote A) 0 r (quote B) ∷ has d g (quote (side e (A, b, f))) (quote B) ∷ []) (eq d g (papp p r) (quote (side e (A, b, f))) (quote B))
+val_follows E0 A b f B = by_eq_p0_val
+val_follows E1 A b f B = by_eq_p1_val
 
 module _ (c : Callees) (S : Sound c) where
   beta_sound : {rs : List Row} (d : ℕ) (g : Context) (a body r : Term) → Keeps rs (beta c d g a body r) (Stepped d g (App (Lam a body) r))
@@ -36,18 +41,36 @@ module _ (c : Callees) (S : Sound c) where
       bind (S.interval d r) λ _ _ e₁ h₁. bind (S.transform body (DSubst 0 r)) λ o₂ _ e₂ h₂. bind (S.check d g o₂.0 ty) λ _ _ e₃ h₃.
       bind (emitted (lift e₃ (lift e₂ (lift e₁ hx)) also lift e₃ (lift e₂ h₁) also lift e₃ (lift e₂ (lift e₁ hy)) also lift e₃ h₂ also h₃ also none_cited) (pbeta_rule q)) λ row _ _ h. giving _ λ _ e. lift e h
 
-  at_end_sound : {rs : List Row} {j k : Judgment} (d : ℕ) (g : Context) (t out ty : Term) (x y rule : ℕ) → At x j rs → At y k rs → Follows rule (j ∷ k ∷ typing d g out ty ∷ []) (equation d g t out ty) → Keeps rs (at_end c d g t out ty x y rule) (Stepped d g t)
+  at_end_sound : {rs : List Row} {refs : List ℕ} {js : List Judgment} (d : ℕ) (g : Context) (t out ty : Term) (rule : ℕ) → Cites rs refs js → Follows rule (js ++ typing d g out ty ∷ []) (equation d g t out ty) → Keeps rs (at_end c d g t out ty refs rule) (Stepped d g t)
   unfolding at_end
-  at_end_sound d g t out ty x y rule hx hy follows = bind (S.check d g out ty) λ _ _ e₁ h₁. bind (emitted (lift e₁ hx also lift e₁ hy also h₁ also none_cited) follows) λ row _ _ h. giving _ λ _ e. lift e h
+  at_end_sound d g t out ty rule cs follows = bind (S.check d g out ty) λ _ _ e₁ h₁. bind (emitted (cs and h₁ by e₁) follows) λ row _ _ h. giving _ λ _ e. lift e h
 
   ends_sound : {rs : List Row} (d : ℕ) (g : Context) (p : Term) (r : Interval) (a b f ty : Term) (x y : ℕ) → At x (typing d g p (Path a b f)) rs → At y (dsubst (quote a) 0 r (quote ty)) rs → Keeps rs (ends c d g p r b f ty x y) (Stepped d g (PathApp p r))
   unfolding ends
-  ends_sound d g p I0 a b f ty x y hx hy = at_end_sound d g (PathApp p I0) b ty x y R.eq_p0 hx hy by_eq_p0
-  ends_sound d g p I1 a b f ty x y hx hy = at_end_sound d g (PathApp p I1) f ty x y R.eq_p1 hx hy by_eq_p1
+  ends_sound d g p I0 a b f ty x y hx hy = at_end_sound d g (PathApp p I0) b ty R.eq_p0 (hx also hy also none_cited) by_eq_p0
+  ends_sound d g p I1 a b f ty x y hx hy = at_end_sound d g (PathApp p I1) f ty R.eq_p1 (hx also hy also none_cited) by_eq_p1
   ends_sound d g p (Dim n) a b f ty x y hx hy = giving none λ _ _. tt
   ends_sound d g p (Neg r) a b f ty x y hx hy = giving none λ _ _. tt
   ends_sound d g p (Meet r q) a b f ty x y hx hy = giving none λ _ _. tt
   ends_sound d g p (Join r q) a b f ty x y hx hy = giving none λ _ _. tt
+
+  along_sound : {rs : List Row} (d : ℕ) (g : Context) (p : Term) (r : Interval) → Keeps rs (along_of c d g p r) (Stepped d g (PathApp p r))
+  unfolding along_of
+  along_sound d g p r =
+      bind (as_path_sound c S d g p) λ o₁ _ _ h₁. bind (S.transform o₁.0.0 (DSubst 0 r)) λ o₂ _ e₂ h₂.
+      cases (plam_parts p)
+      (λ ab q. pbeta_sound d g p r ab.1 o₁.0.0 o₁.0.1 o₁.0.2 o₂.0 o₁.1 o₂.1 (ap quote (plam_is p ab q)) (lift e₂ h₁) h₂)
+      (λ _. ends_sound d g p r o₁.0.0 o₁.0.1 o₁.0.2 o₂.0 o₁.1 o₂.1 (lift e₂ h₁) h₂)
+
+  long_end_sound : {rs : List Row} (p : Term) (r : Interval) → Keeps rs (long_end c p r) (Ended r)
+  unfolding long_end
+  long_end_sound p r = cases (plam_parts p) (λ _ _. giving none λ _ _. tt) (λ _. cases (written r) (λ _ _. giving none λ _ _. tt) (λ _. S.endpoint r))
+
+  at_val_sound : {rs : List Row} (d : ℕ) (g : Context) (p : Term) (r : Interval) (e : End) (w : ℕ) → At w (iend r (literal e)) rs → Keeps rs (at_val c d g p r e w) (Stepped d g (PathApp p r))
+  unfolding at_val
+  at_val_sound d g p r e w hw =
+      bind (as_path_sound c S d g p) λ o₁ _ e₁ h₁. bind (S.interval d r) λ _ _ e₂ h₂. bind (S.transform o₁.0.0 (DSubst 0 r)) λ o₃ _ e₃ h₃.
+      at_end_sound d g (PathApp p r) (side e o₁.0) o₃.0 (val_rule e) (none_cited and hw by same and h₁ by e₁ and h₂ by e₂ and h₃ by e₃) (val_follows e o₁.0.0 o₁.0.1 o₁.0.2 o₃.0)
 
   fst_beta_sound : {rs : List Row} (d : ℕ) (g : Context) (ty a b : Term) → Keeps rs (fst_beta c d g (Pair ty a b) a) (Stepped d g (Fst (Pair ty a b)))
   unfolding fst_beta
@@ -59,7 +82,7 @@ module _ (c : Callees) (S : Sound c) where
   unfolding snd_beta
   snd_beta_sound d g ty a b =
       bind (as_sigma_sound c S d g (Pair ty a b)) λ o₁ _ _ h₁. bind (S.transform o₁.0.1 (Subst 0 (Fst (Pair ty a b)))) λ o₂ _ e₂ h₂.
-      at_end_sound d g (Snd (Pair ty a b)) b o₂.0 o₁.1 o₂.1 R.eq_snd_beta (lift e₂ h₁) h₂ by_eq_snd_beta
+      at_end_sound d g (Snd (Pair ty a b)) b o₂.0 R.eq_snd_beta (lift e₂ h₁ also h₂ also none_cited) by_eq_snd_beta
 
   pub reduce_sound : {rs : List Row} (d : ℕ) (g : Context) (t : Term) → Keeps rs (reduce_body c d g t) (Stepped d g t)
   unfolding reduce_body
@@ -73,10 +96,10 @@ module _ (c : Callees) (S : Sound c) where
   reduce_sound d g (Path a b e) = giving none λ _ _. tt
   reduce_sound d g (PathLam a b) = giving none λ _ _. tt
   reduce_sound d g (PathApp p r) =
-      bind (as_path_sound c S d g p) λ o₁ _ _ h₁. bind (S.transform o₁.0.0 (DSubst 0 r)) λ o₂ _ e₂ h₂.
-      cases (plam_parts p)
-      (λ ab q. pbeta_sound d g p r ab.1 o₁.0.0 o₁.0.1 o₁.0.2 o₂.0 o₁.1 o₂.1 (ap quote (plam_is p ab q)) (lift e₂ h₁) h₂)
-      (λ _. ends_sound d g p r o₁.0.0 o₁.0.1 o₁.0.2 o₂.0 o₁.1 o₂.1 (lift e₂ h₁) h₂)
+      bind (long_end_sound p r) λ o rs₁ _ h₁.
+      cases o
+      (λ of q. at_val_sound d g p r of.0 of.1 (along (λ o. Ended r o rs₁) q h₁))
+      (λ _. along_sound d g p r)
   reduce_sound d g (Sigma a b) = giving none λ _ _. tt
   reduce_sound d g (Pair ty a b) = giving none λ _ _. tt
   reduce_sound d g (Fst p) = cases (pair_parts p) (λ of q. rw (pair_is p of q) (fst_beta_sound d g of.0 of.1 of.2)) (λ _. giving none λ _ _. tt)

@@ -2,10 +2,10 @@
 use Rattle.std.specs.Prelude.{ℕ, suc, ◌≡◌, List, [], ◌∷◌, Bool, true, false}
 use Rattle.std.proofs.Math.Option.{Option, none, some}
 use Rattle.walk.specs.Syntax.{quote, quotes, Interval, Term, Universe, Context}
-use Rattle.walk.specs.Judgment.{Judgment, ctx, dshiftctx, lookup, max, interval, ishift, isubst, shift, dshift}
+use Rattle.walk.specs.Judgment.{Judgment, ctx, dshiftctx, lookup, max, interval, ishift, isubst, shift, dshift, iend}
 use Rattle.walk.specs.Rules.{Follows}
 use Rattle.walk.specs.State.{Row, pure}
-use Rattle.walk.specs.Walk.{Op, Shift, Subst, DShift, DSubst, IOp, Step, Found, Callees, compared, larger, itransformed, transformed, typing, equation}
+use Rattle.walk.specs.Walk.{Op, Shift, Subst, DShift, DSubst, IOp, End, Step, Found, Callees, compared, larger, literal, itransformed, transformed, typing, equation}
 use Rattle.walk.specs.Demand.{At, Cites}
 use Rattle.walk.specs.Sound.Logic.{Keeps}
 
@@ -42,6 +42,11 @@ abbrev pub Stepped : ℕ → Context → Term → Option Step → List Row → T
 Stepped d g t none rs = Unit {0}
 Stepped d g t (some step) rs = At step.row (equation d g t step.term step.type) rs
 
+-- what an end that is worked out says
+abbrev pub Ended : Interval → Option (End × ℕ) → List Row → Type 0
+Ended r none rs = Unit {0}
+Ended r (some (e, x)) rs = At x (iend r (literal e)) rs
+
 -- what `find` finds follows
 pub record Finds (d : ℕ) (g : Context) (t : Term) (found : Found) (rs : List Row) : Type 0 where
   pub premises : List Judgment
@@ -64,6 +69,7 @@ pub record Sound (c : Callees) : Type 0 where
   pub itransform : {rs : List Row} (r : Interval) (op : IOp) → Keeps rs (c.itransform r op) (λ o. At o.1 (itransformed r op o.0))
   pub under : {rs : List Row} (op : Op) (dimension : Bool) → Keeps rs (c.under op dimension) (Lifted op dimension)
   pub interval : {rs : List Row} (d : ℕ) (r : Interval) → Keeps rs (c.interval d r) (λ x. At x (interval d r))
+  pub endpoint : {rs : List Row} (r : Interval) → Keeps rs (c.endpoint r) (Ended r)
   pub comparison : {rs : List Row} (m n : ℕ) (strict : Bool) → Keeps rs (c.comparison m n strict) (λ x. At x (compared strict m n))
   pub max : {rs : List Row} (m n : ℕ) → Keeps rs (c.max m n) (λ x. At x (max m n (larger m n)))
   pub more : (n : ℕ) → c.more n ≡ pure (suc n)

@@ -1,13 +1,13 @@
 -- normalize, equal, reduce: producer.rs, `normalize`, `equal` and `reduce`; pairs: sigma.rs.
-use Rattle.std.specs.Prelude.{ℕ, suc, [], ◌∷◌}
+use Rattle.std.specs.Prelude.{ℕ, List, [], ◌∷◌, ◌++◌}
 use Rattle.std.proofs.Math.Option.{Option, none, some}
 use Rattle.walk.specs.Syntax.{Interval, I0, I1, Dim, Neg, Meet, Join, Term, Universe, Var, Nat, Zero, Pi, Lam, App, Path, PathLam, PathApp, Sigma, Pair, Fst, Snd, Context, Cons, quote, quotes, quote?}
 use Rattle.walk.specs.Judgment.{Judgment, eq}
 use Rattle.walk.specs.Rule as R
 use Rattle.walk.specs.Refusal as Refusal
 use Rattle.walk.specs.State.{M, ◌>>=◌, pure, refuse, choose◌then◌else◌, from◌get◌or◌, emit}
-use Rattle.walk.specs.Walk.Reference.{Subst, DSubst, Step, Callees}
-use Rattle.walk.specs.Walk.Typing.{level, pi_parts, lam_parts, path_parts, plam_parts, sigma_parts, pair_parts, as_path, as_sigma}
+use Rattle.walk.specs.Walk.Reference.{Subst, DSubst, End, E0, E1, Step, Callees}
+use Rattle.walk.specs.Walk.Typing.{lam_parts, plam_parts, pair_parts, as_path, as_sigma}
 
 abbrev pub equation : ℕ → Context → Term → Term → Term → Judgment
 equation d g a b ty = eq d (quotes g) (quote a) (quote b) (quote ty)
@@ -23,11 +23,11 @@ beta c d g a body r = do
   row ← emit R.eq_beta (x ∷ y ∷ z ∷ arg ∷ x₄ ∷ x₅ ∷ []) (equation d g (App (Lam a body) r) out ty)
   pure (some (record { term = out; type = ty; row = row }))
 
--- t goes to out, of a type that t's parts have given by the rows x and y: an end of a path, the second part of a pair
-unfoldable pub at_end : Callees → ℕ → Context → Term → Term → Term → ℕ → ℕ → ℕ → M (Option Step)
-at_end c d g t out ty x y rule = do
+-- t goes to out, of a type that t's parts have given by the rows refs: an end of a path, the second part of a pair
+unfoldable pub at_end : Callees → ℕ → Context → Term → Term → Term → List ℕ → ℕ → M (Option Step)
+at_end c d g t out ty refs rule = do
   typed ← c.check d g out ty
-  row ← emit rule (x ∷ y ∷ typed ∷ []) (equation d g t out ty)
+  row ← emit rule (refs ++ typed ∷ []) (equation d g t out ty)
   pure (some (record { term = out; type = ty; row = row }))
 
 unfoldable pub pbeta : Callees → ℕ → Context → Term → Interval → Term → Term → ℕ → ℕ → M (Option Step)
@@ -40,12 +40,48 @@ pbeta c d g p r body ty x y = do
 
 -- a path that is no plam, at a literal end alone
 unfoldable pub ends : Callees → ℕ → Context → Term → Interval → Term → Term → Term → ℕ → ℕ → M (Option Step)
-ends c d g p I0 b e ty x y = at_end c d g (PathApp p I0) b ty x y R.eq_p0
-ends c d g p I1 b e ty x y = at_end c d g (PathApp p I1) e ty x y R.eq_p1
+ends c d g p I0 b e ty x y = at_end c d g (PathApp p I0) b ty (x ∷ y ∷ []) R.eq_p0
+ends c d g p I1 b e ty x y = at_end c d g (PathApp p I1) e ty (x ∷ y ∷ []) R.eq_p1
 ends c d g p (Dim n) b e ty x y = pure none
 ends c d g p (Neg r) b e ty x y = pure none
 ends c d g p (Meet r q) b e ty x y = pure none
 ends c d g p (Join r q) b e ty x y = pure none
+
+unfoldable pub along : Callees → ℕ → Context → Term → Interval → M (Option Step)
+along c d g p r = do
+  (path, x) ← as_path c d g p
+  (ty, y) ← c.transform path.0 (DSubst 0 r)
+  from plam_parts p get (λ ab. pbeta c d g p r ab.1 ty x y) or ends c d g p r path.1 path.2 ty x y
+
+-- which end is written, if one is
+abbrev pub written : Interval → Option End
+written I0 = some E0
+written I1 = some E1
+written (Dim n) = none
+written (Neg r) = none
+written (Meet r q) = none
+written (Join r q) = none
+
+-- what the interval of a papp works out to, where that is asked for: of a plam it is not, nor where an end is written
+unfoldable pub long_end : Callees → Term → Interval → M (Option (End × ℕ))
+long_end c p r = from plam_parts p get (λ _. pure none) or (from written r get (λ _. pure none) or c.endpoint r)
+
+-- the side of a path's type at an end, and the rule by which a papp goes there
+abbrev pub side : End → Term × Term × Term → Term
+side E0 path = path.1
+side E1 path = path.2
+
+abbrev pub val_rule : End → ℕ
+val_rule E0 = R.eq_p0_val
+val_rule E1 = R.eq_p1_val
+
+-- the interval works out to e, by the row w
+unfoldable pub at_val : Callees → ℕ → Context → Term → Interval → End → ℕ → M (Option Step)
+at_val c d g p r e w = do
+  (path, x) ← as_path c d g p
+  y ← c.interval d r
+  (ty, z) ← c.transform path.0 (DSubst 0 r)
+  at_end c d g (PathApp p r) (side e path) ty (w ∷ x ∷ y ∷ z ∷ []) (val_rule e)
 
 -- the projections of the pair p, whose parts are a and b
 unfoldable pub fst_beta : Callees → ℕ → Context → Term → Term → M (Option Step)
@@ -59,7 +95,7 @@ unfoldable pub snd_beta : Callees → ℕ → Context → Term → Term → M (O
 snd_beta c d g p b = do
   (sigma, x) ← as_sigma c d g p
   (ty, y) ← c.transform sigma.1 (Subst 0 (Fst p))
-  at_end c d g (Snd p) b ty x y R.eq_snd_beta
+  at_end c d g (Snd p) b ty (x ∷ y ∷ []) R.eq_snd_beta
 
 unfoldable pub reduce_body : Callees → ℕ → Context → Term → M (Option Step)
 reduce_body c d g (Universe l) = pure none
@@ -72,9 +108,8 @@ reduce_body c d g (App f r) = from lam_parts f get (λ ab. beta c d g ab.0 ab.1 
 reduce_body c d g (Path a b e) = pure none
 reduce_body c d g (PathLam a b) = pure none
 reduce_body c d g (PathApp p r) = do
-  (path, x) ← as_path c d g p
-  (ty, y) ← c.transform path.0 (DSubst 0 r)
-  from plam_parts p get (λ ab. pbeta c d g p r ab.1 ty x y) or ends c d g p r path.1 path.2 ty x y
+  end ← long_end c p r
+  from end get (λ of. at_val c d g p r of.0 of.1) or along c d g p r
 reduce_body c d g (Sigma a b) = pure none
 reduce_body c d g (Pair ty a b) = pure none
 reduce_body c d g (Fst p) = from pair_parts p get (λ of. fst_beta c d g p of.1) or pure none

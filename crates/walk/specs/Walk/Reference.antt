@@ -1,4 +1,4 @@
--- The operations of the transforms, and the sixteen reference functions as one record: each body of the walk is a
+-- The operations of the transforms, and the seventeen reference functions as one record: each body of the walk is a
 -- definition over the functions that it calls.
 use Rattle.std.specs.Prelude.{ℕ, List, [], Bool}
 use Rattle.std.proofs.Math.Option.{Option}
@@ -28,6 +28,12 @@ abbrev pub of_iop : IOp → List Thing
 of_iop (IShift k) = []
 of_iop (ISubst k r) = of_interval r
 
+-- An end of the interval: i0 or i1.
+pub data End : Type 0 where
+  E0 : End
+  E1 : End
+  deriving Discrete as EndDiscrete
+
 -- A step of `reduce`: the term, its type, and the row of the equation. (The source has no type here: its `normalize` reads it from the row,
 -- where it stands by quote. A known row has the same judgment, so it is the same.)
 pub record Step : Type 0 where
@@ -41,7 +47,7 @@ pub record Found : Type 0 where
   pub refs : List ℕ
   pub rule : ℕ
 
--- The sixteen reference functions, and how they make the number after n: `more n`.
+-- The seventeen reference functions, and how they make the number after n: `more n`.
 pub record Callees : Type 0 where
   pub ctx : ℕ → Context → M ℕ
   pub infer : ℕ → Context → Term → M (Term × ℕ)
@@ -57,6 +63,7 @@ pub record Callees : Type 0 where
   pub itransform : Interval → IOp → M (Interval × ℕ)
   pub under : Op → Bool → M (Op × List ℕ)
   pub interval : ℕ → Interval → M ℕ
+  pub endpoint : Interval → M (Option (End × ℕ))
   pub comparison : ℕ → ℕ → Bool → M ℕ
   pub max : ℕ → ℕ → M ℕ
   pub more : ℕ → M ℕ

@@ -58,6 +58,11 @@ impl Player {
         }
     }
 
+    /// Whether an endpoint was worked out, up to here.
+    pub fn worked_out(&self) -> bool {
+        self.0.watch.worked_out
+    }
+
     pub fn cells(&self) -> u32 {
         self.0.watch.cells.used()
     }

@@ -1,6 +1,7 @@
-//! The sixteen reference functions under their own names: each notes that it is
+//! The sixteen reference functions, and `endpoint`, under their own names: each notes that it is
 //! entered, counts its arguments from left to right, and calls the body that
 //! the source gives it. Results that no row names are counted on return.
+use super::endpoints::End;
 use super::{Interval, Op, Producer, Result, Term};
 use crate::cells::Cells;
 
@@ -138,6 +139,11 @@ impl Producer {
 
     pub(super) fn interval(&mut self, d: usize, r: &Interval) -> Result<usize> {
         self.watched(|c| interval(c, r), |p| p.interval_source(d, r), none)
+    }
+
+    pub(super) fn endpoint(&mut self, r: &Interval) -> Result<End> {
+        self.watch.worked_out = true;
+        self.watched(|c| interval(c, r), |p| p.endpoint_source(r), none)
     }
 
     pub(super) fn comparison(&mut self, m: usize, n: usize, strict: bool) -> Result<usize> {
