@@ -326,6 +326,7 @@ def many_types():
     case('types-nodes', run(1, many(0, [], tree(11), [tree(11), tree(11), tree(12), tree(11)])))
     case('types-nodes-10000', run(1, many(0, [tree(n) for n in (12, 9, 8, 7, 3, 1)], ZERO, [NAT, fst(ZERO), NAT])))
     say('The most calls that a run can have: types of one byte, 16 of them for five bytes more, and nine at the end.')
+    # 49,930 have no room: those of 3,121 calls of code 6 take 65,535 bytes and the limit's two, and a context in a type's place two more.
     most = [many(0, [], ZERO, [NAT] * 16)] * 3120 + [many(0, [], ZERO, [NAT] * 9)]
     case('calls-49929', run(100, *most), (16368, 16384, 199716))
     case('calls-49929-answers-short', run(100, *most), (16368, 16384, 199715))

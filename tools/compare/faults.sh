@@ -1,6 +1,7 @@
 #!/bin/sh
 # Breaks copies of the program, one line each, and sees that the comparison and
-# `replay` catch every one; and that both pass the copy that is not broken.
+# `replay` catch every one (of one fault `edges`, since no stored run has so many
+# nodes); and that all pass the copy that is not broken.
 #   tools/compare/faults.sh SOURCE_FOLDER
 # SOURCE_FOLDER, or else ORACLE_SOURCE, is the oracle's (tools/oracle/build.sh).
 # Nothing is proved here: the copies are compiled as `rt try` does. The
@@ -14,10 +15,12 @@ work=$(mktemp -d)
 trap 'rm -rf "$work"' EXIT
 failed=0
 
-# fault NAME FILE OLD NEW [REPLAY]: the first line that is OLD becomes NEW. With no
-# FILE the copy is as it was. REPLAY is 0 where what is wrong shows in no listing,
-# and so not in `replay`.
+# fault NAME FILE OLD NEW [RUNS [PROGRAM]]: the first line that is OLD becomes NEW.
+# With no FILE the copy is as it was. RUNS are compared (1 20000), and PROGRAM is
+# run (replay), or none where what is wrong shows in no listing.
 fault() {
+    runs=${5:-1 20000}
+    program=${6:-replay}
     copy=$work/copy
     rm -rf "$copy"
     mkdir "$copy"
@@ -38,17 +41,20 @@ fault() {
     EXPORTS_LIBRARY=$work/library COMPARE_TARGET=$work/target "$here/build.sh" "$source" \
         >"$work/built" 2>&1 || { cat "$work/built" >&2; exit 2; }
     status=0
-    "$work/target/release/compare" 1 20000 >"$work/compared" || status=$?
+    # shellcheck disable=SC2086
+    "$work/target/release/compare" $runs >"$work/compared" || status=$?
     grep -E 'DIFFERENCE|smallest run|^bytes|^slices|no difference|runs compared' "$work/compared"
     [ "$status" -eq "$wanted" ] || { echo "compare: status $status, wanted $wanted"; failed=1; }
-    (cd "$copy/crates/replay" && rt try <stdin) >"$work/tried" 2>"$work/said" || :
-    tail -n1 "$work/tried"
+    [ "$program" = none ] && return
+    (cd "$copy/crates/$program" && rt try --seconds 600 <stdin) >"$work/tried" 2>"$work/said" || :
+    diff "$copy/crates/$program/stdout" "$work/tried" | sed -n "s/^> /$program: /p" | head -n1
     status=0
-    cmp -s "$work/tried" "$copy/crates/replay/stdout" || status=1
-    [ -s "$work/tried" ] && [ "$status" -eq "${5:-$wanted}" ] || { echo "replay: not as it should be"; failed=1; }
+    cmp -s "$work/tried" "$copy/crates/$program/stdout" || status=1
+    [ -s "$work/tried" ] && [ "$status" -eq "$wanted" ] || { echo "$program: not as it should be"; failed=1; }
 }
 
 fault 'no fault' '' '' ''
+fault 'no fault' '' '' '' '--many 1 2000' edges
 fault "a lam's annotation is quoted" ast/src/cells.rt \
     '        Kind::Lam => true,' '        Kind::Lam => false,'
 fault 'two premises are cited the wrong way round' producer/src/typing.rt \
@@ -59,6 +65,15 @@ fault 'a refused conversion is not ended' producer/src/answers.rt \
     '            Err(left.refused(refused.refusal))' '            Err(refused)'
 fault "a refused call's rows have the next call's number" run/src/entry.rt \
     '        mark(rows, s.rows, turn.state.rows, i);' \
-    '        mark(rows, s.rows, turn.state.rows, if turn.number == 0 { i } else { i + 1 });' 0
+    '        mark(rows, s.rows, turn.state.rows, if turn.number == 0 { i } else { i + 1 });' \
+    '1 20000' none
+fault 'types after one that is refused are skipped' run/src/entry.rt \
+    '        Err(Unfit::Refused(refusal, next)) => refused(state, refusal, after(at, next, left)),' \
+    '        Err(Unfit::Refused(refusal, next)) => refused(state, refusal, after(at, next, 0)),' \
+    '--many 1 2000'
+fault "the types' nodes are added up" syntax/src/limits.rt \
+    '            Ok(call) => self.type_fitting(ty, call.head, call.nodes),' \
+    '            Ok(call) => self.type_fitting(ty, call.head, call.nodes + (ty - call.next - 1)),' \
+    '--many 1 2000' edges
 [ "$failed" -eq 0 ] && echo "every fault is caught"
 exit "$failed"

@@ -171,6 +171,8 @@ fn a_run_is_cut_after_each_call() {
     assert_eq!(ends(&ALIKE[..15], 9), [15], "the last call ends early");
     assert_eq!(ends(&[[100, 0].as_slice(), &[0; 9]].concat(), 9), [5, 8, 11]);
     assert_eq!(ends(&ALIKE[..2], 9), [2]);
+    let many = [100, 0, 6, 0, 0, 4, 2, 3, 3, 6, 0, 0, 4, 0, 0, 0, 0];
+    assert_eq!(ends(&many, 9), [9, 14, 17], "a call with many types is not cut inside");
 }
 
 /// A word of an older entry that a later call made another shows, but for a row's
