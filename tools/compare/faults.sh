@@ -45,7 +45,7 @@ fault() {
     "$work/target/release/compare" $runs >"$work/compared" || status=$?
     grep -E 'DIFFERENCE|smallest run|^bytes|^slices|no difference|runs compared' "$work/compared"
     [ "$status" -eq "$wanted" ] || { echo "compare: status $status, wanted $wanted"; failed=1; }
-    [ "$program" = none ] && return
+    [ "$program" = none ] && return 0
     (cd "$copy/crates/$program" && rt try --seconds 600 <stdin) >"$work/tried" 2>"$work/said" || :
     diff "$copy/crates/$program/stdout" "$work/tried" | sed -n "s/^> /$program: /p" | head -n1
     status=0
