@@ -111,6 +111,7 @@ impl Indexed for Rows {
 }
 
 // The last row below `n` that has the judgment's kind and arguments.
+#[inline(always)]
 pub fn find_row(rows: &[u32], n: u32, words: Words) -> Option<u32>
     ensures { result ≡ find_row rows.now n words.kind words.a words.b words.c words.d words.e }
 {

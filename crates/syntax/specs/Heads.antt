@@ -151,6 +151,7 @@ many_number c_check = refl
 many_number c_normalise = refl
 many_number c_equal = refl
 many_number c_many = refl
+
 -- end of many by number
 
 pub is_many : (c : Code) → lists_types c ≡ true → c ≡ c_many
@@ -162,6 +163,7 @@ is_many c_check e = absurd (let z : ◌≡◌ {A = ℕ} 0 1 = cc in omega arith)
 is_many c_normalise e = absurd (let z : ◌≡◌ {A = ℕ} 0 1 = cc in omega arith)
 is_many c_equal e = absurd (let z : ◌≡◌ {A = ℕ} 0 1 = cc in omega arith)
 is_many c_many e = refl
+
 -- end of many by code
 
 pub few_terms : (c : Option Code) → terms_in c ≤ 3

@@ -68,6 +68,7 @@ fn limits(depth: u8, nodes: usize) -> bool
 
 impl Lent<'_> {
     // The size of one term after so many nodes, at depth 0. A word of the stack is a part and three times its depth.
+    #[inline(always)]
     fn term_size(&mut self, from: usize, before: usize) -> Result<Counted, Uncounted>
         ensures same { self.new.bytes ≡ self.old.bytes }
         ensures size { Counts (λ t. walk_size t 0 before) (term_at self.old.bytes.now from) result }
@@ -107,6 +108,7 @@ impl Lent<'_> {
     }
 
     // That of so many terms, one after the other, from no nodes.
+    #[inline(always)]
     fn terms_size(&mut self, from: usize, count: usize) -> Result<Counted, Uncounted>
         ensures same { self.new.bytes ≡ self.old.bytes }
         ensures size { Counts (λ ts. walk_sizes ts 0) (terms_at count self.old.bytes.now from) result }
@@ -123,6 +125,7 @@ impl Lent<'_> {
 
     // That of the call at an offset, whose head was read: its dimension count and context length, then its terms.
     #[tactic(auto, using(crate::proofs::Counts::dims_over, crate::proofs::Counts::size_over_33, crate::proofs::Counts::within))]
+    #[inline(always)]
     fn call_size(&mut self, from: usize, head: CallHead) -> Result<Counted, Uncounted>
         requires { HeadAt self.old.bytes.now from head }
         ensures same { self.new.bytes ≡ self.old.bytes }
@@ -140,6 +143,7 @@ impl Lent<'_> {
     // Whether the call at an offset is within the limits. One that is gets passed over once: only where one is refused, its end is still to
     // be found.
     #[tactic(auto, unfolding(crate::specs::Told::size_in), using(crate::proofs::Counts::size_none, crate::proofs::Counts::size_bad))]
+    #[inline(always)]
     fn fitting(&mut self, from: usize) -> Result<Fitting, Unfit>
         ensures same { self.new.bytes ≡ self.old.bytes }
         ensures value { result ≡ size_of (call_at self.old.bytes.now from) }

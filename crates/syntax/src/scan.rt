@@ -112,6 +112,7 @@ impl Lent<'_> {
 
     // So many terms, one after the other.
     #[tactic(auto, using(crate::proofs::Terms::terms_on, crate::proofs::Terms::terms_done))]
+    #[inline(always)]
     pub fn terms(&mut self, from: usize, count: usize) -> Result<usize, Unread>
         ensures same { self.new.bytes ≡ self.old.bytes }
         ensures value { result ≡ next_of (terms_at count self.old.bytes.now from) }
@@ -125,6 +126,7 @@ impl Lent<'_> {
 
     // One call from an offset on.
     #[tactic(auto, using(crate::proofs::Terms::call_no_head, crate::proofs::Terms::call_on))]
+    #[inline(always)]
     pub fn call(&mut self, from: usize) -> Result<usize, Unread>
         ensures same { self.new.bytes ≡ self.old.bytes }
         ensures value { result ≡ next_of (call_at self.old.bytes.now from) }

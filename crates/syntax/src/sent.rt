@@ -66,6 +66,7 @@ impl Lent<'_> {
 
     // What is sent at an offset: the call is passed over, and then its types are.
     #[tactic(auto, using(crate::proofs::Sends::no_head, crate::proofs::Sends::sent_unread, crate::proofs::Sends::with_types, crate::proofs::Sends::no_more))]
+    #[inline(always)]
     fn one_sent(&mut self, from: usize) -> Result<Sent, Unread>
         ensures { result ≡ sent_of self.old.bytes.now from }
     {
@@ -80,6 +81,7 @@ impl Lent<'_> {
 
 // What is sent at an offset.
 #[tactic(auto, unfolding(crate::specs::Sent::sent_in))]
+#[inline(always)]
 pub fn sent_at(s: &[u8], from: usize, stack: &mut [u8]) -> Result<Sent, Unread>
     ensures { result ≡ sent_in (short stack.old s.now) s.now from }
 {
