@@ -5,7 +5,7 @@ use Rattle.walk.specs.Syntax.{Term, quote, Interval, I0, I1, Dim, Neg, Meet, Joi
 use Rattle.walk.specs.Judgment.{Judgment, kind, Argument, arguments}
 use Rattle.walk.specs.Judgment as J
 use Rattle.walk.specs.State.{Row}
-use Rattle.walk.specs.Reader.{Call, Code, c_context, c_universe, c_infer, c_check, c_normalise, c_equal, c_many}
+use Rattle.walk.specs.Reader.{Call, Code, c_context, c_universe, c_infer, c_check, c_normalise, c_equal, c_many, c_head}
 use Rattle.walk.specs.Run.{Result, no_result, a_level, a_term, Answer}
 use Rattle.rules.specs.Names.{bytes, rule_name, judgment_name}
 use Rattle.syntax.specs.Told.{code_number}
