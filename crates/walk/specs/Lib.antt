@@ -20,3 +20,4 @@ pub mod Examples
 pub mod Pairs
 pub mod Many
 pub mod Endpoints
+pub mod Heads
