@@ -44,8 +44,8 @@ table = (
       (gives 66 50 0 ((14, no_row, no_result, 17) ∷ [])),
   [],
 ) ∷ (
-  listed "14 before the argument is looked at" (limit_100 ++ 4 ∷ 0 ∷ 1 ∷ 7 ∷ 6 ∷ 1 ∷ 0 ∷ 2 ∷ 0 ∷ 5 ∷ 7 ∷ 6 ∷ 1 ∷ 0 ∷ 7 ∷ 6 ∷ 1 ∷ 0 ∷ 7 ∷ 6 ∷ 1 ∷ 0 ∷ 2 ∷ 0 ∷ 2 ∷ 0 ∷ 2 ∷ 0 ∷ 3 ∷ 3 ∷ 7 ∷ 7 ∷ 6 ∷ 3 ∷ 2 ∷ 1 ∷ 4 ∷ 4 ∷ 3 ∷ 7 ∷ 0 ∷ 1 ∷ 7 ∷ 6 ∷ 1 ∷ 0 ∷ 2 ∷ 0 ∷ 5 ∷ 7 ∷ 6 ∷ 1 ∷ 0 ∷ 7 ∷ 6 ∷ 1 ∷ 0 ∷ 7 ∷ 6 ∷ 1 ∷ 0 ∷ 2 ∷ 0 ∷ 2 ∷ 0 ∷ 2 ∷ 0 ∷ 3 ∷ 3 ∷ 7 ∷ 7 ∷ 6 ∷ 3 ∷ 2 ∷ 1 ∷ 4 ∷ 4 ∷ 3 ∷ [])
-      (gives 158 100 0 ((0, 155, a_term (App (App (Lam Nat (Var 1)) Zero) Zero), 24) ∷ (14, no_row, no_result, 14) ∷ [])),
+  listed "14 before the argument is looked at" (limit_100 ++ 4 ∷ 0 ∷ 2 ∷ 7 ∷ 6 ∷ 1 ∷ 0 ∷ 2 ∷ 0 ∷ 5 ∷ 3 ∷ 3 ∷ 7 ∷ 6 ∷ 1 ∷ 0 ∷ 7 ∷ 6 ∷ 1 ∷ 0 ∷ 7 ∷ 6 ∷ 1 ∷ 0 ∷ 2 ∷ 0 ∷ 2 ∷ 0 ∷ 2 ∷ 0 ∷ 3 ∷ 7 ∷ 7 ∷ 6 ∷ 3 ∷ 2 ∷ 2 ∷ 4 ∷ 2 ∷ 0 ∷ 3 ∷ 7 ∷ 0 ∷ 2 ∷ 7 ∷ 6 ∷ 1 ∷ 0 ∷ 2 ∷ 0 ∷ 5 ∷ 3 ∷ 3 ∷ 7 ∷ 6 ∷ 1 ∷ 0 ∷ 7 ∷ 6 ∷ 1 ∷ 0 ∷ 7 ∷ 6 ∷ 1 ∷ 0 ∷ 2 ∷ 0 ∷ 2 ∷ 0 ∷ 2 ∷ 0 ∷ 3 ∷ 7 ∷ 7 ∷ 6 ∷ 3 ∷ 2 ∷ 2 ∷ 4 ∷ 2 ∷ 0 ∷ 3 ∷ [])
+      (gives 142 94 0 ((0, 139, a_term (App (App (Lam Nat (Var 2)) Zero) (Var 0)), 20) ∷ (14, no_row, no_result, 8) ∷ [])),
   [],
 ) ∷ (
   listed "a head whose type is exposed, and that stays" (limit_100 ++ 7 ∷ 0 ∷ 1 ∷ 7 ∷ 6 ∷ 1 ∷ 0 ∷ 2 ∷ 0 ∷ 5 ∷ 3 ∷ 3 ∷ 7 ∷ 2 ∷ 0 ∷ 4 ∷ 3 ∷ [])
