@@ -19,7 +19,8 @@ UNFOLD = {
     'build': 'up follows_number',
     'under_subst': 'up',
     'pair': 'pair_typed',
-    'line': 'at_ends as_path',
+    'along': 'at_ends as_path',
+    'val': 'as_path',
     'equal': 'equal_normal',
 }
 

@@ -133,6 +133,7 @@ with_checks_linked N n c d G L = record {
         ((L.itransform i op).holds w s e h) ((G.itransform r b tt).gives s);
   };
   interval = L.interval;
+  endpoint = L.endpoint;
   comparison = L.comparison;
   max = L.max;
   more = L.more;

@@ -1,4 +1,4 @@
--- The sixteen functions with a check of each call of a transform, inside a run. That no check stops a run is proved in proofs/Inside:
+-- The seventeen functions with a check of each call of a transform, inside a run. That no check stops a run is proved in proofs/Inside:
 -- `run_checked`.
 use Rattle.std.specs.Prelude.{ℕ, suc, Bool, false}
 use Rattle.std.proofs.Math.Option.{Option, none, some}
@@ -77,6 +77,7 @@ with_checks N c = record {
   under = c.under;
   itransform = λ i op w. checked interval? N interval_of (imade w i op) (c.itransform i op w);
   interval = c.interval;
+  endpoint = c.endpoint;
   comparison = c.comparison;
   max = c.max;
 }

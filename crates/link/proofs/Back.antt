@@ -221,7 +221,7 @@ module _ {xs : List Thing} {C : List ℕ} (cs : CellsWords xs C) where
 
   -- a judgment
   judgment_read : {k count a b c d e : ℕ} {j : Judgment} → Spoken xs k count a b c d e j → reads j (length xs) C a b c d e ≡ some j
-  unfolding read_ctx read_dshiftctx read_lookup read_lt read_le read_max read_interval read_ishift read_isubst read_shift read_subst read_dshift read_dsubst read_has read_eq ◌>>=◌
+  unfolding read_ctx read_dshiftctx read_lookup read_lt read_le read_max read_interval read_ishift read_isubst read_shift read_subst read_dshift read_dsubst read_has read_eq read_iend ◌>>=◌
   -- written by tools/written.py: judgments
   judgment_read (j_ctx h0) = rw (context_read h0)
   judgment_read (j_dshiftctx h0 h1) = rw (context_read h0, context_read h1)

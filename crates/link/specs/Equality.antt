@@ -1,8 +1,8 @@
 -- Equality over words matches the walk's: reduce, normalize, equal.
-use Rattle.std.specs.Prelude.{ℕ, ◌≡◌, List, Bool}
+use Rattle.std.specs.Prelude.{ℕ, ◌≡◌, List, [], ◌∷◌, Bool}
 use Rattle.std.proofs.Math.Path.{refl, subst}
 use Rattle.std.proofs.Common.{sym, ap}
-use Rattle.std.proofs.Math.Option.{Option}
+use Rattle.std.proofs.Math.Option.{Option, none}
 use Rattle.std.proofs.Math.Bool.{true, false}
 use Rattle.ast.specs.Cells.{same_quote_of}
 use Rattle.producer.specs.Machine.{Machine, W, Reduction, next, stop, when◌then◌else◌}
@@ -10,16 +10,29 @@ use Rattle.producer.specs.Machine as C
 use Rattle.producer.specs.Callees.{Callees}
 use Rattle.producer.specs.Equality as P
 use Rattle.walk.specs.Syntax.{Interval, I0, I1, Term, App, Lam, PathApp, Fst, Snd, Context, quote, quote?}
-use Rattle.walk.specs.State.{Thing, term, interval, context, M, refuse, choose◌then◌else◌, from◌get◌or◌}
+use Rattle.walk.specs.State.{Thing, term, interval, context, M, pure, refuse, choose◌then◌else◌, from◌get◌or◌}
 use Rattle.walk.specs.Walk.Reference as D
+use Rattle.walk.specs.Walk.Reference.{End, E0, E1}
+use Rattle.producer.specs.Endpoints.{by_end}
 use Rattle.walk.specs.Walk.Equality as B
 use Rattle.link.specs.Lists.{extends_trans}
 use Rattle.link.specs.Things.{Cell, cell_lift, cell_same}
 use Rattle.link.specs.Holds.{Before}
 use Rattle.link.specs.Match.{Matches, both_refused, bind, giving, stopping, Same, cite_1, cite_2, cite_3, cite_5, cite_6, Returns, regrouped, given}
 use Rattle.link.specs.Open.{Node, opening_interval, opening_term, at_lam, at_plam, at_pair, same_quote}
-use Rattle.link.specs.Linked.{Linked, o_subst, o_dsubst, Steps, no_step, a_step, row_then, pair_then, number_then}
+use Rattle.link.specs.Linked.{Linked, the_end, Ends, no_end, ended_then, o_subst, o_dsubst, Steps, no_step, a_step, row_then, pair_then, number_then}
 use Rattle.link.specs.Typing.{emitting_eq, three_then, four_then, universe_of_cons, infer_of_cons, as_path_matches, as_sigma_matches, transform_at_fst}
+
+-- the side of a path's type at an end, and the rule
+side_cell : {xs : List Thing} {b f : ℕ} {b' f' : Term} (a' : Term) (e : End) → Cell b (term b') xs → Cell f (term f') xs → Cell (by_end (the_end e) b f) (term (B.side e (a', b', f'))) xs
+unfolding by_end
+side_cell a' E0 b f = b
+side_cell a' E1 b f = f
+
+val_rule_is : (e : End) → P.val_rule (the_end e) ≡ B.val_rule e
+unfolding P.val_rule by_end
+val_rule_is E0 = refl
+val_rule_is E1 = refl
 
 module _ {o : Before} {rd : M (Unit {0})} (c : Callees) (d : D.Callees) (L : Linked o rd c d) where
   -- root reductions
@@ -42,7 +55,7 @@ module _ {o : Before} {rd : M (Unit {0})} (c : Callees) (d : D.Callees) (L : Lin
       row_then (emitting_eq _ n cite_6 (cell_lift f₆ g) (cell_lift f₆ t₁) (cell_lift e₆ out) ty) λ _ _ e₇.
       giving _ _ λ _ f. a_step (cell_lift (extends_trans e₆ (extends_trans e₇ f)) out) (cell_lift (extends_trans e₇ f) ty) refl
 
-  at_end_matches : {xs : List Thing} {g t b y : ℕ} {g' : Context} {t' b' y' : Term} (n x z rule : ℕ) → Cell g (context g') xs → Cell t (term t') xs → Cell b (term b') xs → Cell y (term y') xs → Matches o xs (P.at_end c n g t b y x z rule) (B.at_end d n g' t' b' y' x z rule) Steps
+  at_end_matches : {xs : List Thing} {g t b y : ℕ} {g' : Context} {t' b' y' : Term} (n x z rule : ℕ) → Cell g (context g') xs → Cell t (term t') xs → Cell b (term b') xs → Cell y (term y') xs → Matches o xs (P.at_end c n g t b y x z rule) (B.at_end d n g' t' b' y' (x ∷ z ∷ []) rule) Steps
   unfolding P.at_end B.at_end
   at_end_matches n x z rule g t b y =
       row_then (L.check n g b y) λ _ _ e₁.
@@ -74,15 +87,51 @@ module _ {o : Before} {rd : M (Unit {0})} (c : Callees) (d : D.Callees) (L : Lin
       whole : {q : ℕ} (s : Interval) → Node r₁ q (interval s) xs → Cell t₀ (term (PathApp p' s)) xs
       whole s k = let i = cell_same r k.cell in let q : r₀ ≡ s = cc in rw q at t
 
-  reduce_papp_matches : {xs : List Thing} {g t p r : ℕ} {g' : Context} {p' : Term} {r' : Interval} (n : ℕ) → Cell g (context g') xs → Cell t (term (PathApp p' r')) xs → Cell p (term p') xs → Cell r (interval r') xs → Matches o xs (P.reduce_papp c n g t p r) (B.reduce_body d n g' (PathApp p' r')) Steps
-  unfolding P.reduce_papp B.reduce_body
-  reduce_papp_matches n g t p r =
+  along_matches : {xs : List Thing} {g t p r : ℕ} {g' : Context} {p' : Term} {r' : Interval} (n : ℕ) → Cell g (context g') xs → Cell t (term (PathApp p' r')) xs → Cell p (term p') xs → Cell r (interval r') xs → Matches o xs (P.along c n g t p r) (B.along d n g' p' r') Steps
+  unfolding P.along B.along
+  along_matches n g t p r =
       four_then _ _ (as_path_matches c d L n g p) λ _ _ _ x _ _ _ _ f₂ a b e.
       pair_then _ _ (L.transform a (o_dsubst (cell_lift f₂ r))) λ _ z _ _ e₃ ty.
       let f₃ = extends_trans f₂ e₃ in
       at_plam _ _ (cell_lift f₃ p)
       (λ _ _ _ _ _ _ body. pbeta_matches n x z (cell_lift f₃ g) (cell_lift f₃ t) (cell_lift f₃ r) body ty)
       (ends_matches n x z (cell_lift f₃ g) (cell_lift f₃ t) (cell_lift f₃ r) (cell_lift e₃ b) (cell_lift e₃ e) ty)
+
+  -- where the end is asked for
+  long_end_matches : {xs : List Thing} {p r : ℕ} {p' : Term} {r' : Interval} → Cell p (term p') xs → Cell r (interval r') xs → Matches o xs (P.long_end c p r) (B.long_end d p' r') Ends
+  unfolding P.long_end B.long_end when◌then◌else◌ from◌get◌or◌
+  long_end_matches p r =
+      at_plam _ _ p
+      (λ _ _ _ _ _ _ _. giving _ _ λ _ _. no_end)
+      (opening_interval _ (λ r'. from B.written r' get (λ _. pure none) or d.endpoint r') r
+      (λ _ _. giving _ _ λ _ _. no_end)
+      (λ _ _. giving _ _ λ _ _. no_end)
+      (λ _ _ k. L.endpoint k.cell)
+      (λ _ _ _ k _. L.endpoint k.cell)
+      (λ _ _ _ _ _ k _ _. L.endpoint k.cell)
+      (λ _ _ _ _ _ k _ _. L.endpoint k.cell))
+
+  at_val_matches : {xs : List Thing} {g t p r : ℕ} {g' : Context} {p' : Term} {r' : Interval} (n : ℕ) (e : End) (w : ℕ) → Cell g (context g') xs → Cell t (term (PathApp p' r')) xs → Cell p (term p') xs → Cell r (interval r') xs → Matches o xs (P.at_val c n g t p r (the_end e) w) (B.at_val d n g' p' r' e w) Steps
+  unfolding P.at_val B.at_val B.at_end
+  at_val_matches n e w g t p r =
+      four_then _ _ (as_path_matches c d L n g p) λ _ _ _ _ a' _ _ _ e₁ a b f.
+      row_then (L.interval n (cell_lift e₁ r)) λ _ _ e₂.
+      let f₂ = extends_trans e₁ e₂ in
+      pair_then _ _ (L.transform (cell_lift e₂ a) (o_dsubst (cell_lift f₂ r))) λ _ _ _ _ e₃ ty.
+      let f₃ = extends_trans f₂ e₃ in
+      let out = side_cell a' e (cell_lift (extends_trans e₂ e₃) b) (cell_lift (extends_trans e₂ e₃) f) in
+      row_then (L.check n (cell_lift f₃ g) out ty) λ _ _ e₄.
+      let f₄ = extends_trans f₃ e₄ in
+      row_then (rw (val_rule_is e) (emitting_eq _ n cite_5 (cell_lift f₄ g) (cell_lift f₄ t) (cell_lift e₄ out) (cell_lift e₄ ty))) λ _ _ e₅.
+      giving _ _ λ _ h. let l = extends_trans e₄ (extends_trans e₅ h) in a_step (cell_lift l out) (cell_lift l ty) refl
+
+  reduce_papp_matches : {xs : List Thing} {g t p r : ℕ} {g' : Context} {p' : Term} {r' : Interval} (n : ℕ) → Cell g (context g') xs → Cell t (term (PathApp p' r')) xs → Cell p (term p') xs → Cell r (interval r') xs → Matches o xs (P.reduce_papp c n g t p r) (B.reduce_body d n g' (PathApp p' r')) Steps
+  unfolding P.reduce_papp B.reduce_body
+  reduce_papp_matches n g t p r =
+      bind (long_end_matches p r) λ _ _ _ f s.
+      ended_then _ _ s
+      (λ e w. at_val_matches n e w (cell_lift f g) (cell_lift f t) (cell_lift f p) (cell_lift f r))
+      (along_matches n (cell_lift f g) (cell_lift f t) (cell_lift f p) (cell_lift f r))
 
   fst_beta_matches : {xs : List Thing} {g t p a : ℕ} {g' : Context} {p' a' : Term} (n : ℕ) → Cell g (context g') xs → Cell t (term (Fst p')) xs → Cell p (term p') xs → Cell a (term a') xs → Matches o xs (P.fst_beta c n g t p a) (B.fst_beta d n g' p' a') Steps
   unfolding P.fst_beta B.fst_beta
@@ -147,7 +196,7 @@ module _ {A E F : Type 0} {o : Before} {xs : List Thing} {Q : F → A → List T
 
 module _ {o : Before} {rd : M (Unit {0})} (c : Callees) (d : D.Callees) (L : Linked o rd c d) where
   rounds_matches : {xs : List Thing} {g t y i : ℕ} {g' : Context} {t' y' i' : Term} (left n x : ℕ) → Cell g (context g') xs → Cell t (term t') xs → Cell y (term y') xs → Cell i (term i') xs → Matches o xs (P.rounds left c n g t y i x) (B.rounds left d n g' t' y' i' x) (Returns term)
-  unfolding P.rounds P.round P.on_next B.rounds
+  unfolding P.rounds P.round C.on_maybe B.rounds
   rounds_matches ℕ.zero n x g t y i =
       bind (L.reduce n g i) λ _ _ _ e₁ s.
       stepped _ _ s (λ _ _ _ _ _ _ _. stopping _) (giving _ _ λ _ f. record { left = cell_lift (extends_trans e₁ f) i; right = refl })

@@ -12,9 +12,10 @@ pub mod Holds
 pub mod Match
 pub mod Open
 pub mod Linked
--- the sixteen functions
+-- the seventeen functions
 pub mod Numbers
 pub mod Intervals
+pub mod Endpoints
 pub mod Transforms
 pub mod Contexts
 pub mod Typing

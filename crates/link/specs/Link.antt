@@ -14,6 +14,7 @@ use Rattle.link.specs.Match.{stopping, entering, noting, absorbs_none, absorbs_e
 use Rattle.link.specs.Linked.{Linked, Ops, o_shift, o_subst, o_dshift, o_dsubst, IOps, i_shift, i_subst}
 use Rattle.link.specs.Numbers.{comparison_matches, max_matches}
 use Rattle.link.specs.Intervals.{interval_matches, itransform_matches}
+use Rattle.link.specs.Endpoints.{endpoint_matches}
 use Rattle.link.specs.Transforms.{under_matches, transform_matches}
 use Rattle.link.specs.Contexts.{dshiftctx_matches, ctx_matches, lookup_matches}
 use Rattle.link.specs.Typing.{expose_matches, universe_matches, check_matches, infer_matches}
@@ -59,6 +60,7 @@ linked_none = record {
   under = λ op dimension. stopping _;
   itransform = λ r op. stopping _;
   interval = λ n r. stopping _;
+  endpoint = λ r. stopping _;
   comparison = λ m n strict. stopping _;
   max = λ m n. stopping _;
   more = λ n. refl;
@@ -89,6 +91,7 @@ linked_entered n c d L = record {
   under = λ op dimension. entering n (of_op op) (under_matches c d L op dimension);
   itransform = λ r op. entering n (the_interval r with of_iop op) (itransform_matches c d L r op);
   interval = λ m r. entering n (the_interval r) (interval_matches c d L m r);
+  endpoint = λ r. entering n (the_interval r) (endpoint_matches c d L r);
   comparison = λ m k strict. entering n nothing (comparison_matches c d L m k strict);
   max = λ m k. entering n nothing (max_matches c d L m k);
   more = L.more;

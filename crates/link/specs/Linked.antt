@@ -5,6 +5,8 @@ use Rattle.std.proofs.Math.Option.{Option, none, some}
 use Rattle.std.proofs.Math.Decide.{dec_lt}
 use Rattle.std.proofs.Math.Dec.{leb-zero, leb-suc-zero, leb-suc-suc}
 use Rattle.ast.specs.Words.{ifb, up, greater_of}
+use Rattle.producer.specs.declared.endpoints.End.{End}
+use Rattle.producer.specs.declared.endpoints.End.TheVariants.{I0 as E0, I1 as E1}
 use Rattle.producer.specs.declared.rows.Refs.{Refs}
 use Rattle.producer.specs.declared.intervals.IOp.{IOp}
 use Rattle.producer.specs.declared.intervals.IOp.TheVariants.{IShift, ISubst}
@@ -63,6 +65,16 @@ pub data Steps : Option Reduction → Option D.Step → List Thing → Type 0 wh
   no_step : {xs : List Thing} → Steps none none xs
   a_step : {xs : List Thing} {s : Reduction} {t : D.Step} → Cell s.term (term t.term) xs → Cell s.type (term t.type) xs → s.row ≡ t.row → Steps (some s) (some t) xs
 
+-- an end of the walk's, as one of the program's
+abbrev pub the_end : D.End → End
+the_end D.E0 = E0
+the_end D.E1 = E1
+
+-- an end that is worked out, or none
+pub data Ends : Option (End × ℕ) → Option (D.End × ℕ) → List Thing → Type 0 where
+  no_end : {xs : List Thing} → Ends none none xs
+  an_end : {xs : List Thing} {x : ℕ} (e : D.End) → Ends (some (the_end e, x)) (some (e, x)) xs
+
 -- rd: what is done where a function is entered
 pub record Linked (o : Before) (rd : M (Unit {0})) (c : Callees) (d : D.Callees) : Type 0 where
   pub ready : {xs : List Thing} → Matches o xs c.ready rd (λ _ _ _. Unit {0})
@@ -86,6 +98,7 @@ pub record Linked (o : Before) (rd : M (Unit {0})) (c : Callees) (d : D.Callees)
   pub transform : {xs : List Thing} {t : ℕ} {t' : Term} {a : Op} {b : D.Op} → Cell t (term t') xs → Ops xs a b → Matches o xs (c.transform t a) (d.transform t' b) (Returns term)
   pub under : {xs : List Thing} {a : Op} {b : D.Op} → Ops xs a b → (dimension : Bool) → Matches o xs (c.under a dimension) (d.under b dimension) (Carries Moves)
   pub itransform : {xs : List Thing} {i : ℕ} {r : Interval} {a : IOp} {b : D.IOp} → Cell i (interval r) xs → IOps xs a b → Matches o xs (c.itransform i a) (d.itransform r b) (Returns interval)
+  pub endpoint : {xs : List Thing} {i : ℕ} {r : Interval} → Cell i (interval r) xs → Matches o xs (c.endpoint i) (d.endpoint r) Ends
   pub interval : {xs : List Thing} {i : ℕ} {r : Interval} (n : ℕ) → Cell i (interval r) xs → Matches o xs (c.interval n i) (d.interval n r) Same
   pub comparison : {xs : List Thing} (m n : ℕ) (strict : Bool) → Matches o xs (c.comparison m n strict) (d.comparison m n strict) Same
   pub max : {xs : List Thing} (m n : ℕ) → Matches o xs (c.max m n) (d.max m n) Same
@@ -104,6 +117,12 @@ module _ {A B : Type 0} {o : Before} {xs : List Thing} {R : B → A → List Thi
 
   pub cited_then : {P K : Type 0} {rel : P → K → List Thing → Type 0} {m : W (P × Refs)} {d : M (K × List ℕ)} (f : P × Refs → W B) (g : K × List ℕ → M A) → Matches o xs m d (Carries rel) → ((n : P) (l : Refs) (c : K) (ns : List ℕ) (ys : List Thing) → Extends xs ys → rel n c ys → Few l ns → Matches o ys (f (n, l)) (g (c, ns)) R) → Matches o xs (C.◌>>=◌ m f) (S.◌>>=◌ d g) R
   cited_then f g h k = bind h λ p r ys e q. k p.0 p.1 r.0 r.1 ys e q.left q.right
+
+  -- an end, or none
+  pub ended_then : {p : Option (End × ℕ)} {r : Option (D.End × ℕ)} {z : W B} {y : M A} (f : End → ℕ → W B) (g : D.End × ℕ → M A) → Ends p r xs → ((e : D.End) (x : ℕ) → Matches o xs (f (the_end e) x) (g (e, x)) R) → Matches o xs z y R → Matches o xs (C.on_maybe p f z) (S.from◌get◌or◌ r g y) R
+  unfolding C.on_maybe S.from◌get◌or◌
+  ended_then f g no_end k m = m
+  ended_then f g (an_end {x = x} e) k m = k e x
 
 up_is : (n : ℕ) → n < word → up n ≡ suc n
 unfolding up

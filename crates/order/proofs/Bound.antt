@@ -3,7 +3,7 @@
 -- `Within b m e Q`: from any state with b rows that fits, e does what m does, which is not stopped by the guard and leaves what fits.
 -- In quotes and terms: a row has no number above 33 and the rows below it, and what is handed about none above 32 and the rows.
 -- Elsewhere: dimension counts and cutoffs are at most 4,200, since each new one takes an entry; so 4,233 and the rows bound all.
-use Rattle.std.specs.Prelude.{ℕ, suc, ◌+◌, ◌≤◌, ◌<◌, ◌≡◌, List, [], ◌∷◌, ◌++◌, Bool, length}
+use Rattle.std.specs.Prelude.{ℕ, suc, ◌+◌, ◌≤◌, ◌<◌, max, ◌≡◌, List, [], ◌∷◌, ◌++◌, Bool, length}
 use Rattle.std.proofs.Math.Path.{refl, subst as along}
 use Rattle.std.proofs.Common.{ap, arith}
 use Rattle.std.proofs.Math.Option.{Option, none, some}
@@ -12,14 +12,15 @@ use Rattle.std.proofs.Math.Decide.{ℕ_discrete, dec_lt, dec_le}
 use Rattle.walk.specs.Syntax.{Interval, I0, I1, Dim, Neg, Meet, Join, Term, Universe, Var, Nat, Zero, Pi, Lam, App, Path, PathLam, PathApp, Sigma, Pair, Fst, Snd, Context, Nil, Cons, quote, quotes, quote?}
 use Rattle.walk.specs.Judgment.{Judgment, ctx, dshiftctx, lookup, lt, le, max as is_max, interval, ishift, isubst, shift, subst, dshift, dsubst, has, eq, iend}
 use Rattle.walk.specs.State.{Row, Key, key, key?, Thing, inference, State, Outcome, done, refused, M, go_on, looking, ◌>>=◌, pure, refuse, choose◌then◌else◌, from◌get◌or◌, row_of, with_row, push, emit, among, with_cell, count, count_all, recall, Memory, with_memory, store, remember, with_conversions, ended, converted, converting, with_deepest, note, enter, of_term, of_interval, of_context}
-use Rattle.walk.specs.Walk.Reference.{Op, Shift, Subst, DShift, DSubst, IOp, IShift, ISubst, Step, Callees, of_op, of_iop}
+use Rattle.walk.specs.Walk.Reference.{Op, Shift, Subst, DShift, DSubst, IOp, IShift, ISubst, Step, End, E0, E1, EndDiscrete, Callees, of_op, of_iop}
 use Rattle.walk.specs.Walk.Numbers.{lt_by, le_by, larger, comparison_body, max_body}
 use Rattle.walk.specs.Walk.Intervals.{itransformed, ifinish, idim_above, idim, itransform_body, interval_body}
+use Rattle.walk.specs.Walk.Endpoints.{literal, worked_out, right_part, two_parts, endpoint_body}
 use Rattle.walk.specs.Walk.Transforms.{under_body, transformed, finish, tvar_above, tvar, tinterval, tbinder, tprojection, transform_body}
 use Rattle.walk.specs.Walk.Contexts.{dshiftctx_body, new_ctx, ctx_body, lookup_body}
 use Rattle.walk.specs.Reader.{Kind, KindDiscrete, k_pi, k_path, k_sigma}
 use Rattle.walk.specs.Walk.Typing.{level, pi_parts, lam_parts, path_parts, plam_parts, sigma_parts, pair_parts, expose_body, universe_body, check_body, view, headed, as_parts, as_pi, as_path, as_sigma, found, find_binder, find_pair, find, new_infer, infer_body}
-use Rattle.walk.specs.Walk.Equality.{beta, at_end, pbeta, ends, fst_beta, snd_beta, reduce_body, rounds, normalize_body, equal_body}
+use Rattle.walk.specs.Walk.Equality.{beta, at_end, pbeta, ends, along as walk_along, written, long_end, side, at_val, fst_beta, snd_beta, reduce_body, rounds, normalize_body, equal_body}
 use Rattle.walk.specs.Refusal as Refusal
 use Rattle.walk.specs.Walk.{none_left, entered, callees_by, one_more, callees}
 use Rattle.order.specs.Numbers.{largest, interval_top, term_top, context_top, quote_top, quotes_top, judgment_top, key_top, thing_top, memory_top, AtMost, at_most_nil, at_most_cons, StateBounded}
@@ -69,6 +70,7 @@ below_more m m' (dshift t k r) l h = omega arith
 below_more m m' (dsubst t k r p) l h = omega arith
 below_more m m' (has d g t y) l h = omega arith
 below_more m m' (eq d g a b y) l h = omega arith
+below_more m m' (iend r e) l h = omega arith
 
 -- so all its numbers are bounded
 below_top : (m : ℕ) (j : Judgment) → Below m j → judgment_top j ≤ 4200 + m
@@ -87,6 +89,7 @@ below_top m (dshift t k r) h = omega arith
 below_top m (dsubst t k r p) h = omega arith
 below_top m (has d g t y) h = omega arith
 below_top m (eq d g a b y) h = omega arith
+below_top m (iend r e) h = omega arith
 
 -- lists
 
@@ -300,6 +303,14 @@ iop_cells : {m : ℕ} (op : IOp) → iop_top op ≤ m → Cells m (of_iop op)
 iop_cells (IShift k) h = at_most_nil
 iop_cells (ISubst k r) h = interval_cells r h
 
+side_top : (e : End) (p : Term × Term × Term) → term_top (side e p) ≤ max (term_top p.1) (term_top p.2)
+side_top E0 p = omega arith
+side_top E1 p = omega arith
+
+literal_top : (e : End) → interval_top (literal e) ≡ 0
+literal_top E0 = refl
+literal_top E1 = refl
+
 emits : {b : ℕ} (j : Judgment) (rule : ℕ) (refs : List ℕ) → Below (33 + b) j → Within b (emit rule refs j) (emit rule refs j) Nothing
 emits j rule refs l = record { holds = λ s e g. forget ((emitted j rule refs l).holds s e g); same = λ s e g. refl }
   where
@@ -412,6 +423,37 @@ module _ (n : ℕ) (c c' : Callees) (B : Bounds n c c') where
   interval_within d (Neg r) h = bind (B.interval d r (omega arith)) λ x₁ c₁ e₁ h₁. emits _ _ _ (omega arith)
   interval_within d (Meet r q) h = bind (B.interval d r (omega arith)) λ x₁ c₁ e₁ h₁. bind (B.interval d q (omega arith)) λ x₂ c₂ e₂ h₂. emits _ _ _ (omega arith)
   interval_within d (Join r q) h = bind (B.interval d r (omega arith)) λ x₁ c₁ e₁ h₁. bind (B.interval d q (omega arith)) λ x₂ c₂ e₂ h₂. emits _ _ _ (omega arith)
+
+  worked_out_within : {b : ℕ} (r : Interval) (e : End) (rule : ℕ) (refs : List ℕ) → interval_top r ≤ 32 + b → Within b (worked_out r e rule refs) (worked_out r e rule refs) Nothing
+  unfolding worked_out
+  worked_out_within r e rule refs h = let z = literal_top e in bind (counting (interval_cells (literal e) (omega arith))) λ _ c₁ e₁ _. bind (emits _ _ _ (omega arith)) λ x₂ c₂ e₂ h₂. giving _ λ c e. tt
+
+  right_part_within : {b : ℕ} (r q : Interval) (enough : End) (rule : ℕ) (left : Option ℕ) → (interval_top r ≤ 32 + b) × (interval_top q ≤ 32 + b) → Within b (right_part c r q enough rule left) (right_part c' r q enough rule left) Nothing
+  unfolding right_part
+  right_part_within r q enough rule left h =
+      bind (B.endpoint q (omega arith)) λ x₁ c₁ e₁ h₁.
+      cases x₁
+      (λ of _. branch (EndDiscrete of.0 enough)
+      (λ _. worked_out_within _ _ _ _ (omega arith))
+      (λ _. cases left (λ x _. worked_out_within _ _ _ _ (omega arith)) (λ _. giving _ λ c e. tt)))
+      (λ _. giving _ λ c e. tt)
+
+  two_parts_within : {b : ℕ} (r p q : Interval) (enough : End) (rule : ℕ) → (interval_top r ≤ 32 + b) × (interval_top p ≤ 32 + b) × (interval_top q ≤ 32 + b) → Within b (two_parts c r p q enough rule) (two_parts c' r p q enough rule) Nothing
+  unfolding two_parts
+  two_parts_within r p q enough rule h =
+      bind (B.endpoint p (omega arith)) λ x₁ c₁ e₁ h₁.
+      cases x₁
+      (λ of _. branch (EndDiscrete of.0 enough) (λ _. worked_out_within _ _ _ _ (omega arith)) (λ _. right_part_within _ _ _ _ _ (omega arith)))
+      (λ _. right_part_within _ _ _ _ _ (omega arith))
+
+  endpoint_within : {b : ℕ} (r : Interval) → interval_top r ≤ 32 + b → Within b (endpoint_body c r) (endpoint_body c' r) Nothing
+  unfolding endpoint_body
+  endpoint_within I0 h = worked_out_within _ _ _ _ (omega arith)
+  endpoint_within I1 h = worked_out_within _ _ _ _ (omega arith)
+  endpoint_within (Dim n) h = giving _ λ c e. tt
+  endpoint_within (Neg r) h = bind (B.endpoint r (omega arith)) λ x₁ c₁ e₁ h₁. cases x₁ (λ of _. worked_out_within _ _ _ _ (omega arith)) (λ _. giving _ λ c e. tt)
+  endpoint_within (Meet r q) h = two_parts_within _ _ _ _ _ (omega arith)
+  endpoint_within (Join r q) h = two_parts_within _ _ _ _ _ (omega arith)
 
   idim_above_within : {b : ℕ} (i k : ℕ) (q : Interval) → (k ≤ 4200) × (i ≤ 32 + b) × (interval_top q ≤ 32 + b) → Within b (idim_above c i k q) (idim_above c' i k q) SmallInterval
   unfolding idim_above
@@ -632,9 +674,9 @@ module _ (n : ℕ) (c c' : Callees) (B : Bounds n c c') where
       let p = quotes_below g in let q = quote_below (App (Lam s t) r) in let u = quote_below x₅.0 in let v = quote_below x₆.0 in
       bind (emits _ _ _ (omega arith)) λ x₇ c₇ e₇ h₇. giving _ λ c e. omega arith
 
-  at_end_within : {b : ℕ} (d : ℕ) (g : Context) (t out ty : Term) (x y rule : ℕ) → (d + suc n ≤ 4200) × (context_top g ≤ 32 + b) × (term_top t ≤ 32 + b) × (term_top out ≤ 32 + b) × (term_top ty ≤ 32 + b) → Within b (at_end c d g t out ty x y rule) (at_end c' d g t out ty x y rule) Stepped
+  at_end_within : {b : ℕ} (d : ℕ) (g : Context) (t out ty : Term) (refs : List ℕ) (rule : ℕ) → (d + suc n ≤ 4200) × (context_top g ≤ 32 + b) × (term_top t ≤ 32 + b) × (term_top out ≤ 32 + b) × (term_top ty ≤ 32 + b) → Within b (at_end c d g t out ty refs rule) (at_end c' d g t out ty refs rule) Stepped
   unfolding at_end
-  at_end_within d g t out ty x y rule h =
+  at_end_within d g t out ty refs rule h =
       bind (B.check d g out ty (omega arith)) λ x₁ c₁ e₁ h₁. let a = quotes_below g in let q = quote_below t in let u = quote_below out in let v = quote_below ty in
       bind (emits _ _ _ (omega arith)) λ x₂ c₂ e₂ h₂. giving _ λ c e. omega arith
 
@@ -647,8 +689,8 @@ module _ (n : ℕ) (c c' : Callees) (B : Bounds n c c') where
 
   ends_within : {b : ℕ} (d : ℕ) (g : Context) (p : Term) (r : Interval) (s t ty : Term) (x y : ℕ) → (d + suc n ≤ 4200) × (context_top g ≤ 32 + b) × (term_top p ≤ 32 + b) × (interval_top r ≤ 32 + b) × (term_top s ≤ 32 + b) × (term_top t ≤ 32 + b) × (term_top ty ≤ 32 + b) → Within b (ends c d g p r s t ty x y) (ends c' d g p r s t ty x y) Stepped
   unfolding ends
-  ends_within d g p I0 s t ty x y h = at_end_within d g (PathApp p I0) s ty x y _ (omega arith)
-  ends_within d g p I1 s t ty x y h = at_end_within d g (PathApp p I1) t ty x y _ (omega arith)
+  ends_within d g p I0 s t ty x y h = at_end_within d g (PathApp p I0) s ty _ _ (omega arith)
+  ends_within d g p I1 s t ty x y h = at_end_within d g (PathApp p I1) t ty _ _ (omega arith)
   ends_within d g p (Dim z) s t ty x y h = giving _ λ c e. tt
   ends_within d g p (Neg r) s t ty x y h = giving _ λ c e. tt
   ends_within d g p (Meet r q) s t ty x y h = giving _ λ c e. tt
@@ -665,7 +707,25 @@ module _ (n : ℕ) (c c' : Callees) (B : Bounds n c c') where
   unfolding snd_beta
   snd_beta_within d g p s h =
       bind (as_sigma_within d g p (omega arith)) λ x₁ c₁ e₁ h₁. bind (B.transform x₁.0.1 (Subst 0 (Fst p)) (omega arith)) λ x₂ c₂ e₂ h₂.
-      at_end_within d g (Snd p) s x₂.0 _ _ _ (omega arith)
+      at_end_within d g (Snd p) s x₂.0 _ _ (omega arith)
+
+  along_within : {b : ℕ} (d : ℕ) (g : Context) (p : Term) (r : Interval) → (d + suc n ≤ 4200) × (context_top g ≤ 32 + b) × (term_top p ≤ 32 + b) × (interval_top r ≤ 32 + b) → Within b (walk_along c d g p r) (walk_along c' d g p r) Stepped
+  unfolding walk_along
+  along_within d g p r h =
+      bind (as_path_within d g p (omega arith)) λ x₂ c₂ e₂ h₂. bind (B.transform x₂.0.0 (DSubst 0 r) (omega arith)) λ x₃ c₃ e₃ h₃.
+      cases (plam_parts p)
+      (λ ab q. let z = plam_top p ab q in pbeta_within d g p r ab.1 x₃.0 _ _ (omega arith))
+      (λ _. ends_within d g p r x₂.0.1 x₂.0.2 x₃.0 _ _ (omega arith))
+
+  long_end_within : {b : ℕ} (p : Term) (r : Interval) → interval_top r ≤ 32 + b → Within b (long_end c p r) (long_end c' p r) Nothing
+  unfolding long_end
+  long_end_within p r h = cases (plam_parts p) (λ _ _. giving _ λ c e. tt) (λ _. cases (written r) (λ _ _. giving _ λ c e. tt) (λ _. B.endpoint r h))
+
+  at_val_within : {b : ℕ} (d : ℕ) (g : Context) (p : Term) (r : Interval) (e : End) (w : ℕ) → (d + suc n ≤ 4200) × (context_top g ≤ 32 + b) × (term_top p ≤ 32 + b) × (interval_top r ≤ 32 + b) → Within b (at_val c d g p r e w) (at_val c' d g p r e w) Stepped
+  unfolding at_val
+  at_val_within d g p r e w h =
+      bind (as_path_within d g p (omega arith)) λ x₁ c₁ e₁ h₁. bind (B.interval d r (omega arith)) λ x₂ c₂ e₂ h₂. bind (B.transform x₁.0.0 (DSubst 0 r) (omega arith)) λ x₃ c₃ e₃ h₃.
+      let z = side_top e x₁.0 in at_end_within d g (PathApp p r) (side e x₁.0) x₃.0 _ _ (omega arith)
 
   reduce_within : {b : ℕ} (d : ℕ) (g : Context) (t : Term) → (d + suc n ≤ 4200) × (context_top g ≤ 32 + b) × (term_top t ≤ 32 + b) → Within b (reduce_body c d g t) (reduce_body c' d g t) Stepped
   unfolding reduce_body
@@ -679,10 +739,8 @@ module _ (n : ℕ) (c c' : Callees) (B : Bounds n c c') where
   reduce_within d g (Path s t r) h = giving _ λ c e. tt
   reduce_within d g (PathLam s t) h = giving _ λ c e. tt
   reduce_within d g (PathApp p r) h =
-      bind (as_path_within d g p (omega arith)) λ x₂ c₂ e₂ h₂. bind (B.transform x₂.0.0 (DSubst 0 r) (omega arith)) λ x₃ c₃ e₃ h₃.
-      cases (plam_parts p)
-      (λ ab q. let z = plam_top p ab q in pbeta_within d g p r ab.1 x₃.0 _ _ (omega arith))
-      (λ _. ends_within d g p r x₂.0.1 x₂.0.2 x₃.0 _ _ (omega arith))
+      bind (long_end_within p r (omega arith)) λ x₁ c₁ e₁ h₁.
+      cases x₁ (λ of _. at_val_within d g p r of.0 of.1 (omega arith)) (λ _. along_within d g p r (omega arith))
   reduce_within d g (Sigma s t) h = giving _ λ c e. tt
   reduce_within d g (Pair y s t) h = giving _ λ c e. tt
   reduce_within d g (Fst p) h = cases (pair_parts p) (λ of q. let z = pair_top p of q in fst_beta_within d g p of.1 (omega arith)) (λ _. giving _ λ c e. tt)
@@ -740,6 +798,7 @@ bounds_none top t = record {
   itransform = λ r op h. none_within;
   under = λ op dimension h. none_within;
   interval = λ d r h. none_within;
+  endpoint = λ r h. none_within;
   comparison = λ m k strict h. none_within;
   max = λ m k h. none_within;
   more = bumped top t;
@@ -762,6 +821,7 @@ bounds_entered n c c' l B = record {
   itransform = λ r op h. entering n (interval_cells r h.1 +++ iop_cells op h.2) λ b e. itransform_within n c c' B r op (omega arith);
   under = λ op dimension h. entering n (op_cells op h.1) λ b e. under_within n c c' B op dimension (omega arith);
   interval = λ d r h. entering n (interval_cells r h.1) λ b e. interval_within n c c' B d r (omega arith);
+  endpoint = λ r h. entering n (interval_cells r h) λ b e. endpoint_within n c c' B r (omega arith);
   comparison = λ m k strict h. entering n at_most_nil λ b e. comparison_within n c c' B m k strict (omega arith);
   max = λ m k h. entering n at_most_nil λ b e. max_within n c c' B m k (omega arith);
   more = B.more;

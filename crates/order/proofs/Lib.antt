@@ -3,3 +3,5 @@ pub mod Bound
 pub mod Never
 pub mod Call
 pub mod Written
+pub mod Algebra
+pub mod Finds

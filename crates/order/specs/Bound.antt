@@ -6,7 +6,7 @@
 use Rattle.std.specs.Prelude.{ℕ, suc, ◌+◌, ◌≤◌, ◌≡◌, List, [], ◌∷◌, Bool, length}
 use Rattle.std.proofs.Math.Option.{Option, none, some}
 use Rattle.walk.specs.Syntax.{Interval, Term, Context, quote}
-use Rattle.walk.specs.Judgment.{Judgment, ctx, dshiftctx, lookup, lt, le, max as is_max, interval, ishift, isubst, shift, subst, dshift, dsubst, has, eq}
+use Rattle.walk.specs.Judgment.{Judgment, ctx, dshiftctx, lookup, lt, le, max as is_max, interval, ishift, isubst, shift, subst, dshift, dsubst, has, eq, iend}
 use Rattle.walk.specs.State.{Row, Thing, State, Outcome, done, refused, M, Memory}
 use Rattle.walk.specs.Walk.Reference.{Op, Shift, Subst, DShift, DSubst, IOp, IShift, ISubst, Step, Callees}
 use Rattle.order.specs.Numbers.{largest, interval_top, term_top, context_top, quote_top, quotes_top, key_top, thing_top, AtMost}
@@ -29,6 +29,7 @@ Below m (dshift t k r) = (k ≤ 4200 + m) × (quote_top t ≤ m) × (quote_top r
 Below m (dsubst t k r p) = (k ≤ 4200 + m) × (quote_top t ≤ m) × (interval_top r ≤ m) × (quote_top p ≤ m)
 Below m (has d g t y) = (d ≤ 4200 + m) × (quotes_top g ≤ m) × (quote_top t ≤ m) × (quote_top y ≤ m)
 Below m (eq d g a b y) = (d ≤ 4200 + m) × (quotes_top g ≤ m) × (quote_top a ≤ m) × (quote_top b ≤ m) × (quote_top y ≤ m)
+Below m (iend r e) = (interval_top r ≤ m) × (interval_top e ≤ m)
 
 -- the parts of what has no number above m
 abbrev pub Cells : ℕ → List Thing → Type 0
@@ -102,7 +103,7 @@ abbrev pub Stepped : Option Step → ℕ → Type 0
 Stepped none b = Unit {0}
 Stepped (some s) b = (term_top s.term ≤ 32 + b) × (term_top s.type ≤ 32 + b)
 
-abbrev pub Nothing : ℕ → ℕ → Type 0
+abbrev pub Nothing : {A : Type 0} → A → ℕ → Type 0
 Nothing x b = Unit {0}
 
 pub record Bounds (n : ℕ) (c c' : Callees) : Type 0 where
@@ -120,6 +121,7 @@ pub record Bounds (n : ℕ) (c c' : Callees) : Type 0 where
   pub itransform : {b : ℕ} (r : Interval) (op : IOp) → (iop_cutoff op + n ≤ 4200) × (interval_top r ≤ 32 + b) × (iop_top op ≤ 32 + b) → Within b (c.itransform r op) (c'.itransform r op) SmallInterval
   pub under : {b : ℕ} (op : Op) (dimension : Bool) → (op_cutoff op + n ≤ 4200) × (op_top op ≤ 32 + b) → Within b (c.under op dimension) (c'.under op dimension) (λ o b. (op_top o.0 ≤ 32 + b) × (op_cutoff o.0 ≤ suc (op_cutoff op)))
   pub interval : {b : ℕ} (d : ℕ) (r : Interval) → (d + n ≤ 4200) × (interval_top r ≤ 32 + b) → Within b (c.interval d r) (c'.interval d r) Nothing
+  pub endpoint : {b : ℕ} (r : Interval) → interval_top r ≤ 32 + b → Within b (c.endpoint r) (c'.endpoint r) Nothing
   pub comparison : {b : ℕ} (m k : ℕ) (strict : Bool) → (m ≤ 4233 + b) × (k ≤ 4233 + b) → Within b (c.comparison m k strict) (c'.comparison m k strict) Nothing
   pub max : {b : ℕ} (m k : ℕ) → (m ≤ 4233 + b) × (k ≤ 4233 + b) → Within b (c.max m k) (c'.max m k) Nothing
   pub more : {b : ℕ} (k : ℕ) → k ≤ 4200 + b → Within b (c.more k) (c'.more k) (λ k' _. k' ≡ suc k)

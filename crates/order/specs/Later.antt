@@ -9,14 +9,15 @@ use Rattle.walk.specs.Syntax.{Interval, I0, I1, Dim, Neg, Meet, Join, Term, Univ
 use Rattle.walk.specs.Judgment.{Judgment}
 use Rattle.walk.specs.Refusal as Refusal
 use Rattle.walk.specs.State.{Row, Key, Thing, inference, Memory, State, Outcome, done, refused, M, go_on, looking, ◌>>=◌, pure, refuse, choose◌then◌else◌, from◌get◌or◌, row_of, with_row, push, emit, among, with_cell, count, count_all, with_memory, store, remember, with_conversions, ended, converted, converting, with_deepest, note, enter}
-use Rattle.walk.specs.Walk.Reference.{Op, Shift, Subst, DShift, DSubst, IOp, IShift, ISubst, Callees}
+use Rattle.walk.specs.Walk.Reference.{Op, Shift, Subst, DShift, DSubst, IOp, IShift, ISubst, End, Callees}
 use Rattle.walk.specs.Walk.Numbers.{lt_by, le_by, comparison_body, max_body}
 use Rattle.walk.specs.Walk.Intervals.{ifinish, idim_above, idim, itransform_body, interval_body}
+use Rattle.walk.specs.Walk.Endpoints.{worked_out, right_part, two_parts, endpoint_body}
 use Rattle.walk.specs.Walk.Transforms.{under_body, finish, tvar_above, tvar, tinterval, tbinder, tprojection, transform_body}
 use Rattle.walk.specs.Walk.Contexts.{dshiftctx_body, new_ctx, ctx_body, lookup_body}
 use Rattle.walk.specs.Reader.{Kind}
 use Rattle.walk.specs.Walk.Typing.{expose_body, universe_body, check_body, headed, as_parts, found, find_binder, find_pair, find, new_infer, infer_body}
-use Rattle.walk.specs.Walk.Equality.{beta, at_end, pbeta, ends, fst_beta, snd_beta, reduce_body, rounds, normalize_body, equal_body}
+use Rattle.walk.specs.Walk.Equality.{beta, at_end, pbeta, ends, along, long_end, at_val, fst_beta, snd_beta, reduce_body, rounds, normalize_body, equal_body}
 use Rattle.walk.specs.Walk.{none_left, entered, callees_by, one_more, callees}
 use Rattle.walk.specs.Demand.{Extends, same, more}
 use Rattle.walk.specs.Sound.Logic.{extends_trans}
@@ -185,6 +186,7 @@ pub record AllLead (c : Callees) : Type 0 where
   pub itransform : (r : Interval) (op : IOp) → Leads (c.itransform r op)
   pub under : (op : Op) (dimension : Bool) → Leads (c.under op dimension)
   pub interval : (d : ℕ) (r : Interval) → Leads (c.interval d r)
+  pub endpoint : (r : Interval) → Leads (c.endpoint r)
   pub comparison : (m n : ℕ) (strict : Bool) → Leads (c.comparison m n strict)
   pub max : (m n : ℕ) → Leads (c.max m n)
   pub more : (n : ℕ) → Leads (c.more n)
@@ -223,6 +225,27 @@ module _ (c : Callees) (L : AllLead c) where
   interval_leads d (Neg r) = search (combinators, L.interval)
   interval_leads d (Meet r q) = search (combinators, L.interval)
   interval_leads d (Join r q) = search (combinators, L.interval)
+
+  worked_out_leads : (r : Interval) (e : End) (rule : ℕ) (refs : List ℕ) → Leads (worked_out r e rule refs)
+  unfolding worked_out
+  worked_out_leads r e rule refs = search combinators
+
+  right_part_leads : (r b : Interval) (enough : End) (rule : ℕ) (left : Option ℕ) → Leads (right_part c r b enough rule left)
+  unfolding right_part
+  right_part_leads r b enough rule left = search (combinators, worked_out_leads, L.endpoint) depth 10
+
+  two_parts_leads : (r a b : Interval) (enough : End) (rule : ℕ) → Leads (two_parts c r a b enough rule)
+  unfolding two_parts
+  two_parts_leads r a b enough rule = search (combinators, worked_out_leads, right_part_leads, L.endpoint) depth 10
+
+  endpoint_leads : (r : Interval) → Leads (endpoint_body c r)
+  unfolding endpoint_body
+  endpoint_leads I0 = search worked_out_leads
+  endpoint_leads I1 = search worked_out_leads
+  endpoint_leads (Dim n) = search combinators
+  endpoint_leads (Neg r) = search (combinators, worked_out_leads, L.endpoint)
+  endpoint_leads (Meet r q) = search two_parts_leads
+  endpoint_leads (Join r q) = search two_parts_leads
 
   idim_above_leads : (n k : ℕ) (q : Interval) → Leads (idim_above c n k q)
   unfolding idim_above ifinish
@@ -359,9 +382,9 @@ module _ (c : Callees) (L : AllLead c) where
   unfolding beta
   beta_leads d g a body r = search (combinators, L.universe, L.infer, L.check, L.transform) depth 10
 
-  at_end_leads : (d : ℕ) (g : Context) (t out ty : Term) (x y rule : ℕ) → Leads (at_end c d g t out ty x y rule)
+  at_end_leads : (d : ℕ) (g : Context) (t out ty : Term) (refs : List ℕ) (rule : ℕ) → Leads (at_end c d g t out ty refs rule)
   unfolding at_end
-  at_end_leads d g t out ty x y rule = search (combinators, L.check)
+  at_end_leads d g t out ty refs rule = search (combinators, L.check)
 
   pbeta_leads : (d : ℕ) (g : Context) (p : Term) (r : Interval) (body ty : Term) (x y : ℕ) → Leads (pbeta c d g p r body ty x y)
   unfolding pbeta
@@ -376,6 +399,18 @@ module _ (c : Callees) (L : AllLead c) where
   ends_leads d g p (Meet r q) b e ty x y = search combinators
   ends_leads d g p (Join r q) b e ty x y = search combinators
 
+  along_leads : (d : ℕ) (g : Context) (p : Term) (r : Interval) → Leads (along c d g p r)
+  unfolding along
+  along_leads d g p r = search (combinators, as_parts_leads, L.transform, pbeta_leads, ends_leads) depth 10
+
+  long_end_leads : (p : Term) (r : Interval) → Leads (long_end c p r)
+  unfolding long_end
+  long_end_leads p r = search (combinators, L.endpoint)
+
+  at_val_leads : (d : ℕ) (g : Context) (p : Term) (r : Interval) (e : End) (w : ℕ) → Leads (at_val c d g p r e w)
+  unfolding at_val
+  at_val_leads d g p r e w = search (combinators, as_parts_leads, L.interval, L.transform, at_end_leads) depth 10
+
   reduce_leads : (d : ℕ) (g : Context) (t : Term) → Leads (reduce_body c d g t)
   unfolding reduce_body fst_beta snd_beta
   reduce_leads d g (Universe l) = search combinators
@@ -387,7 +422,7 @@ module _ (c : Callees) (L : AllLead c) where
   reduce_leads d g (App f r) = search (combinators, beta_leads)
   reduce_leads d g (Path a b e) = search combinators
   reduce_leads d g (PathLam a b) = search combinators
-  reduce_leads d g (PathApp p r) = search (combinators, as_parts_leads, L.transform, pbeta_leads, ends_leads) depth 10
+  reduce_leads d g (PathApp p r) = search (combinators, long_end_leads, at_val_leads, along_leads)
   reduce_leads d g (Sigma a b) = search combinators
   reduce_leads d g (Pair ty a b) = search combinators
   reduce_leads d g (Fst p) = search (combinators, as_parts_leads, L.check) depth 10
@@ -412,9 +447,9 @@ none_lead = search (refuses, gives)
 
 entered_lead : (n : ℕ) (c : Callees) → AllLead c → AllLead (entered n c)
 unfolding entered
-entered_lead n c L = search (L.more, enters, ctx_leads, infer_leads, universe_leads, check_leads, expose_leads, normalize_leads, equal_leads, reduce_leads, lookup_leads, dshiftctx_leads, transform_leads, itransform_leads, under_leads, interval_leads, comparison_leads, max_leads)
+entered_lead n c L = search (L.more, enters, ctx_leads, infer_leads, universe_leads, check_leads, expose_leads, normalize_leads, equal_leads, reduce_leads, lookup_leads, dshiftctx_leads, transform_leads, itransform_leads, under_leads, interval_leads, endpoint_leads, comparison_leads, max_leads)
 
--- the sixteen functions, with n entries left
+-- the seventeen functions, with n entries left
 pub leads : (n : ℕ) → AllLead (callees n)
 unfolding callees callees_by
 leads ℕ.zero = none_lead

@@ -10,6 +10,8 @@ pub mod Never
 pub mod Later
 pub mod Refusals
 pub mod Spot
+pub mod Algebra
+pub mod Finds
 pub mod Counts
 pub mod Theorem
 pub mod Call

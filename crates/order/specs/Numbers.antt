@@ -85,6 +85,7 @@ judgment_top (dshift t k r) = max k (max (quote_top t) (quote_top r))
 judgment_top (dsubst t k r p) = max k (max (quote_top t) (max (interval_top r) (quote_top p)))
 judgment_top (has d g t a) = max d (max (quotes_top g) (max (quote_top t) (quote_top a)))
 judgment_top (eq d g a b t) = max d (max (quotes_top g) (max (quote_top a) (max (quote_top b) (quote_top t))))
+judgment_top (iend r e) = max (interval_top r) (interval_top e)
 
 -- The key of an inference has a dimension count too.
 abbrev pub key_top : Key → ℕ

@@ -1,5 +1,6 @@
 -- How the functions below typing are refused, from any state. A transform, and what it calls, is refused where a row, an entry or a
--- cell is wanting, and for nothing else: the other refusals that stand in their bodies are never met. `interval` is refused besides
+-- cell is wanting, and for nothing else: the other refusals that stand in their bodies are never met. So is `endpoint`, which knows of no
+-- dimension count. `interval` is refused besides
 -- where a dimension is not below the dimension count, `lookup` where the context has no such variable.
 use Rattle.std.specs.Prelude.{ℕ, suc, ◌≤◌, ◌<◌, List, [], ◌∷◌, Bool, length}
 use Rattle.std.proofs.Math.Option.{Option, none, some}
@@ -10,9 +11,10 @@ use Rattle.walk.specs.Syntax.{Interval, I0, I1, Dim, Neg, Meet, Join, Term, Univ
 use Rattle.walk.specs.Judgment.{Judgment}
 use Rattle.walk.specs.Refusal as Refusal
 use Rattle.walk.specs.State.{Thing, State, Outcome, done, refused, M, go_on, looking, ◌>>=◌, pure, refuse, choose◌then◌else◌, from◌get◌or◌, row_of, push, emit, among, with_cell, count, count_all, note, enter}
-use Rattle.walk.specs.Walk.Reference.{Op, Shift, Subst, DShift, DSubst, IOp, IShift, ISubst, Callees}
+use Rattle.walk.specs.Walk.Reference.{Op, Shift, Subst, DShift, DSubst, IOp, IShift, ISubst, End, EndDiscrete, Callees}
 use Rattle.walk.specs.Walk.Numbers.{lt_by, le_by, comparison_body, max_body}
 use Rattle.walk.specs.Walk.Intervals.{ifinish, idim_above, idim, itransform_body, interval_body}
+use Rattle.walk.specs.Walk.Endpoints.{worked_out, right_part, two_parts, endpoint_body}
 use Rattle.walk.specs.Walk.Transforms.{under_body, finish, tvar_above, tvar, tinterval, tbinder, tprojection, transform_body}
 use Rattle.walk.specs.Walk.Contexts.{dshiftctx_body, lookup_body}
 use Rattle.walk.specs.Walk.{none_left, entered, callees_by, one_more, callees}
@@ -83,6 +85,11 @@ unfolding choose◌then◌else◌
 branches (yes p) h k = h p
 branches (no p) h k = k p
 
+gets : {A B : Type 0} {P : ℕ → Type 0} {f : A → M B} {z : M B} (o : Option A) → ((a : A) → Only P (f a)) → Only P z → Only P (from o get f or z)
+unfolding from◌get◌or◌
+gets (some a) h k = h a
+gets none h k = k
+
 emits : (rule : ℕ) (refs : List ℕ) (j : Judgment) → Only Full (emit rule refs j)
 unfolding emit looking pure push refuse choose◌then◌else◌ from◌get◌or◌
 emits rule refs j = record { only = λ s. go s (row_of j s.rows) (dec_lt (length s.rows) s.row_room) }
@@ -126,6 +133,7 @@ pub record Refusals (c : Callees) : Type 0 where
   pub dshiftctx : (g : Context) → Only Full (c.dshiftctx g)
   pub lookup : (g : Context) (k : ℕ) → Only (OfLookup g k) (c.lookup g k)
   pub interval : (d : ℕ) (r : Interval) → Only (OfInterval d r) (c.interval d r)
+  pub endpoint : (r : Interval) → Only Full (c.endpoint r)
   -- any comparison
   pub compared : (m n : ℕ) → Only (OfInterval n (Dim m)) (c.comparison m n true)
   pub more : (n : ℕ) → Only Full (c.more n)
@@ -191,6 +199,27 @@ module _ (c : Callees) (R : Refusals c) where
       right : (n : ℕ) → OfInterval d q n → OfInterval d (Join r q) n
       right n (full f) = full f
       right n (outside o) = outside (in_right_join o)
+
+  worked_out_only : (r : Interval) (e : End) (rule : ℕ) (refs : List ℕ) → Only Full (worked_out r e rule refs)
+  unfolding worked_out
+  worked_out_only r e rule refs = search combinators
+
+  right_part_only : (r b : Interval) (enough : End) (rule : ℕ) (left : Option ℕ) → Only Full (right_part c r b enough rule left)
+  unfolding right_part
+  right_part_only r b enough rule left = binds (R.endpoint b) λ o. gets o (λ of. branches (EndDiscrete of.0 enough) (λ _. worked_out_only _ _ _ _) (λ _. gets left (λ x. worked_out_only _ _ _ _) (gives none))) (gives none)
+
+  two_parts_only : (r a b : Interval) (enough : End) (rule : ℕ) → Only Full (two_parts c r a b enough rule)
+  unfolding two_parts
+  two_parts_only r a b enough rule = binds (R.endpoint a) λ o. gets o (λ of. branches (EndDiscrete of.0 enough) (λ _. worked_out_only _ _ _ _) (λ _. right_part_only _ _ _ _ _)) (right_part_only _ _ _ _ _)
+
+  endpoint_only : (r : Interval) → Only Full (endpoint_body c r)
+  unfolding endpoint_body
+  endpoint_only I0 = search worked_out_only
+  endpoint_only I1 = search worked_out_only
+  endpoint_only (Dim n) = search combinators
+  endpoint_only (Neg r) = binds (R.endpoint r) λ o. gets o (λ of. worked_out_only _ _ _ _) (gives none)
+  endpoint_only (Meet r q) = search two_parts_only
+  endpoint_only (Join r q) = search two_parts_only
 
   ifinish_only : (r : Interval) (op : IOp) (out : Interval) (rule : ℕ) (refs : List ℕ) → Only Full (ifinish r op out rule refs)
   unfolding ifinish
@@ -293,6 +322,7 @@ none_only = record {
   dshiftctx = λ g. refuses _ no_entry;
   lookup = λ g k. refuses _ (full no_entry);
   interval = λ d r. refuses _ (full no_entry);
+  endpoint = λ r. refuses _ no_entry;
   compared = λ m n. refuses _ (full no_entry);
   more = λ n. gives (suc n);
 }
@@ -309,6 +339,7 @@ entered_only n c R = record {
   dshiftctx = λ g. enters n _ (λ k f. f) (dshiftctx_only c R g);
   lookup = λ g k. enters n _ (λ k. full) (lookup_only c R g k);
   interval = λ d r. enters n _ (λ k. full) (interval_only c R d r);
+  endpoint = λ r. enters n _ (λ k f. f) (endpoint_only c R r);
   compared = λ m k. enters n _ (λ k. full) (compared_only c R m k);
   more = R.more;
 }

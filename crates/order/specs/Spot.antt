@@ -8,14 +8,15 @@ use Rattle.std.proofs.Math.Option.{Option, none, some}
 use Rattle.std.proofs.Math.Decide.{dec_lt}
 use Rattle.walk.specs.Syntax.{Interval, I0, I1, Dim, Neg, Meet, Join, Term, Universe, Var, Nat, Zero, Pi, Lam, App, Path, PathLam, PathApp, Sigma, Pair, Fst, Snd, Context, Nil, Cons}
 use Rattle.walk.specs.State.{Thing, thing?, State, Outcome, done, refused, M, go_on, looking, ◌>>=◌, pure, refuse, from◌get◌or◌, recall, key, of_interval, of_term, of_context, among, with_cell, count, count_all, note, enter}
-use Rattle.walk.specs.Walk.Reference.{Op, Shift, Subst, DShift, DSubst, IOp, IShift, ISubst, Callees, of_op, of_iop}
+use Rattle.walk.specs.Walk.Reference.{Op, Shift, Subst, DShift, DSubst, IOp, IShift, ISubst, Step, Callees, of_op, of_iop}
 use Rattle.walk.specs.Walk.Numbers.{lt_by, le_by, comparison_body, max_body}
 use Rattle.walk.specs.Walk.Intervals.{idim_above, idim, itransform_body, interval_body}
+use Rattle.walk.specs.Walk.Endpoints.{two_parts, endpoint_body}
 use Rattle.walk.specs.Walk.Transforms.{under_body, tvar_above, tvar, tbinder, tprojection, transform_body}
 use Rattle.walk.specs.Walk.Contexts.{dshiftctx_body, new_ctx, ctx_body, lookup_body}
 use Rattle.walk.specs.Reader.{Kind}
-use Rattle.walk.specs.Walk.Typing.{expose_body, universe_body, check_body, lam_parts, sigma_parts, pair_parts, headed, as_parts, find_binder, find_pair, find, new_infer, infer_body}
-use Rattle.walk.specs.Walk.Equality.{beta, fst_beta, snd_beta, reduce_body, normalize_body, equal_body}
+use Rattle.walk.specs.Walk.Typing.{expose_body, universe_body, check_body, lam_parts, plam_parts, sigma_parts, pair_parts, headed, as_parts, find_binder, find_pair, find, new_infer, infer_body}
+use Rattle.walk.specs.Walk.Equality.{beta, along, written, long_end, fst_beta, snd_beta, reduce_body, normalize_body, equal_body}
 use Rattle.walk.specs.Walk.{none_left, entered, one_more, callees_by, callees}
 use Rattle.walk.specs.Refusal as R
 use Rattle.walk.specs.Sound.Parts.{lam_is, sigma_is}
@@ -41,6 +42,7 @@ counted_first = record {
   itransform = λ r op. count_all (of_interval r ++ of_iop op) >>= λ _. refusing.itransform r op;
   under = λ op dimension. count_all (of_op op) >>= λ _. refusing.under op dimension;
   interval = λ d r. count_all (of_interval r) >>= λ _. refusing.interval d r;
+  endpoint = λ r. count_all (of_interval r) >>= λ _. refusing.endpoint r;
   comparison = λ m k strict. refusing.comparison m k strict;
   max = λ m k. refusing.max m k;
   more = refusing.more;
@@ -236,6 +238,23 @@ beta_alike : (d : ℕ) (g : Context) (a b r : Term) → Alike (of_context g ++ o
 unfolding beta none_left counted_first
 beta_alike d g a b r = stopped (stops_then _ _ (stops_here _ _ _ λ cells h. part_of (of_context g) (of_term a) (of_term b) _ (part_of (of_context g) (of_term (Lam a b)) (of_term r) _ h)))
 
+-- what is asked for where o is none, and else is a
+asked_alike : {A B X : Type 0} {xs : List Thing} (m e : M A) (o : Option X) (a : A) (f g : A → M B) → Alike xs (f a) (g a) → Alike xs (m >>= f) (e >>= g) → Alike xs ((from o get (λ _. pure a) or m) >>= f) ((from o get (λ _. pure a) or e) >>= g)
+unfolding from◌get◌or◌ pure ◌>>=◌ go_on
+asked_alike m e none a f g h k = k
+asked_alike m e (some x) a f g h k = record { alike = λ s c. h.alike s c }
+
+along_alike : {A : Type 0} (d : ℕ) (g : Context) (p : Term) (r : Interval) (u v : A → M (Option Step)) → Alike (of_context g ++ of_term (PathApp p r)) (from none get u or along refusing d g p r) (from none get v or along counted_first d g p r)
+unfolding from◌get◌or◌ along
+along_alike d g p r u v = stopped (stops_then _ _ (as_parts_stops _ _ _ d g p λ cells h. part_of (of_context g) (of_term p) (of_interval r) _ h))
+
+-- a papp: the end of its interval is asked for first, or its path's type
+papp_alike : (d : ℕ) (g : Context) (p : Term) (r : Interval) → Alike (of_context g ++ of_term (PathApp p r)) (reduce_body refusing d g (PathApp p r)) (reduce_body counted_first d g (PathApp p r))
+unfolding reduce_body long_end none_left counted_first
+papp_alike d g p r =
+    let x = along_alike d g p r _ _ in
+    asked_alike _ _ (plam_parts p) none _ _ x (asked_alike _ _ (written r) none _ _ x (stopped (stops_then _ _ (stops_here _ _ _ λ cells h. right_of (of_term p) (of_interval r) (left_of (of_term p ++ of_interval r) _ (right_of (of_context g) _ h))))))
+
 reduce_alike : (d : ℕ) (g : Context) (t : Term) → Alike (of_context g ++ of_term t) (reduce_body refusing d g t) (reduce_body counted_first d g t)
 unfolding reduce_body fst_beta snd_beta none_left counted_first
 reduce_alike d g (Universe l) = unchanged _
@@ -247,7 +266,7 @@ reduce_alike d g (Lam a b) = unchanged _
 reduce_alike d g (App f r) = taken_alike (lam_parts f) _ λ ab q. rw (lam_is f ab q) (beta_alike d g ab.0 ab.1 r)
 reduce_alike d g (Path a b e) = unchanged _
 reduce_alike d g (PathLam a b) = unchanged _
-reduce_alike d g (PathApp p r) = stopped (stops_then _ _ (as_parts_stops _ _ _ d g p λ cells h. part_of (of_context g) (of_term p) (of_interval r) _ h))
+reduce_alike d g (PathApp p r) = papp_alike d g p r
 reduce_alike d g (Sigma a b) = unchanged _
 reduce_alike d g (Pair ty a b) = unchanged _
 reduce_alike d g (Fst p) = taken_alike (pair_parts p) _ λ _ _. stopped (stops_then _ _ (as_parts_stops _ _ _ d g p λ cells h. front_of (of_context g) (of_term p) _ h))
@@ -327,6 +346,15 @@ interval_alike d (Neg r) = stopped (stops_then _ _ (stops_here _ _ _ λ cells h.
 interval_alike d (Meet r q) = stopped (stops_then _ _ (stops_here _ _ _ λ cells h. left_of (of_interval r) (of_interval q) (left_of (of_interval r ++ of_interval q) _ h)))
 interval_alike d (Join r q) = stopped (stops_then _ _ (stops_here _ _ _ λ cells h. left_of (of_interval r) (of_interval q) (left_of (of_interval r ++ of_interval q) _ h)))
 
+endpoint_alike : (r : Interval) → Alike (of_interval r) (endpoint_body refusing r) (endpoint_body counted_first r)
+unfolding endpoint_body two_parts none_left counted_first
+endpoint_alike I0 = unchanged _
+endpoint_alike I1 = unchanged _
+endpoint_alike (Dim n) = unchanged _
+endpoint_alike (Neg r) = stopped (stops_then _ _ (stops_here _ _ _ λ cells h. left_of (of_interval r) _ h))
+endpoint_alike (Meet r q) = stopped (stops_then _ _ (stops_here _ _ _ λ cells h. left_of (of_interval r) (of_interval q) (left_of (of_interval r ++ of_interval q) _ h)))
+endpoint_alike (Join r q) = stopped (stops_then _ _ (stops_here _ _ _ λ cells h. left_of (of_interval r) (of_interval q) (left_of (of_interval r ++ of_interval q) _ h)))
+
 idim_same : (n : ℕ) (op : IOp) → idim counted_first n op ≡ idim refusing n op
 unfolding idim idim_above counted_first
 idim_same n (IShift k) = refl
@@ -396,6 +424,7 @@ late_one = λ i. record {
   itransform = λ r op s. enters 0 _ (itransform_alike r op) s i;
   under = λ op dimension s. enters 0 _ (under_alike op dimension) s i;
   interval = λ d r s. enters 0 _ (interval_alike d r) s i;
+  endpoint = λ r s. enters 0 _ (endpoint_alike r) s i;
   comparison = λ m k strict s. enters 0 _ (comparison_alike m k strict) s i;
   max = λ m k s. enters 0 _ (max_alike m k) s i;
   more = one_more;

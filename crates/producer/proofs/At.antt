@@ -15,16 +15,17 @@ use Rattle.ast.specs.declared.cells.Shape.TheVariants.{Universe, Pi, Lam, Path, 
 use Rattle.std.specs.Prelude.{Result, Ok, Err, IsErrAnd}
 use Rattle.producer.specs.declared.intervals.IOp.{IOp}
 use Rattle.producer.specs.declared.transforms.Op.{Op}
-use Rattle.producer.specs.Machine.{Machine, W, intern, next, ◌>>=◌, give, stop, enter, note, ended, on_universe, on_pi, on_lam, on_path, on_plam, on_sigma, on_pair}
+use Rattle.producer.specs.Machine.{Machine, W, intern, next, ◌>>=◌, give, stop, enter, note, ended, on_maybe, on_universe, on_pi, on_lam, on_path, on_plam, on_sigma, on_pair}
 use Rattle.producer.specs.Answers.{Answer, end, ended_answer}
 use Rattle.producer.specs.Callees.{Callees}
 use Rattle.producer.specs.Calls.{none_left, entered, callees}
 use Rattle.producer.specs.Numbers.{comparison_body, max_body}
 use Rattle.producer.specs.Intervals.{itransform_body, interval_body}
+use Rattle.producer.specs.Endpoints.{endpoint_body}
 use Rattle.producer.specs.Transforms.{rule_of, transform_body, under_body}
 use Rattle.producer.specs.Contexts.{lookup_body, dshiftctx_body}
 use Rattle.producer.specs.Typing.{ctx_body, infer_body, universe_body, check_body, expose_body}
-use Rattle.producer.specs.Equality.{normalize_body, equal_body, reduce_body, round, rounds, on_step, on_next}
+use Rattle.producer.specs.Equality.{normalize_body, equal_body, reduce_body, round, rounds, on_step}
 
 -- where `?` returns early, the refusal is the one that was met
 pub residual : {A E : Type 0} (r : Result A E) (e : E) → IsErrAnd r (λ x. x ≡ e) → r ≡ Err e
@@ -174,6 +175,15 @@ unfolding callees entered
 interval_in zero d r w h = absurd (h refl)
 interval_in (suc k) d r w h = rw sub-one
 
+pub endpoint_none : (k r : ℕ) (w : Machine) → k ≡ 0 → (callees k).endpoint r w ≡ stop Refusal.nesting w
+unfolding callees none_left
+endpoint_none k r w h = rw h
+
+pub endpoint_in : (k r : ℕ) (w : Machine) → (k ≡ 0 → ⊥) → (callees k).endpoint r w ≡ enter (k - 1) (endpoint_body (callees (k - 1)) r) w
+unfolding callees entered
+endpoint_in zero r w h = absurd (h refl)
+endpoint_in (suc k) r w h = rw sub-one
+
 pub comparison_none : (k m n : ℕ) (strict : Bool) (w : Machine) → k ≡ 0 → (callees k).comparison m n strict w ≡ stop Refusal.nesting w
 unfolding callees none_left
 comparison_none k m n strict w h = rw h
@@ -281,7 +291,7 @@ not_pair Other h f z = refl
 -- end of shapes
 
 -- one round, and none left
-pub rounds_turn : (c : Callees) (i d g t ty current row : ℕ) (w : Machine) → i < 32 → rounds (32 - i) c d g t ty current row w ≡ next (round c d g t ty current row w) (λ x. on_next x (λ term y. rounds (32 - (i + 1)) c d g t ty term y) (give (current, row)))
+pub rounds_turn : (c : Callees) (i d g t ty current row : ℕ) (w : Machine) → i < 32 → rounds (32 - i) c d g t ty current row w ≡ next (round c d g t ty current row w) (λ x. on_maybe x (λ term y. rounds (32 - (i + 1)) c d g t ty term y) (give (current, row)))
 unfolding rounds ◌>>=◌
 rounds_turn c i d g t ty current row w h = let e : 32 - i ≡ suc (32 - (i + 1)) = omega arith in rw e
 

@@ -119,7 +119,7 @@ pub told : {k m : ℕ} {C : List ℕ} {a b c d e : ℕ} {j : Judgment} → asked
 told {k} {m} {C} {a} {b} {c} {d} {e} {j} q = rw add-zero at (each_tells readings_tell k C j m a b c d e q)
 
 pub arguments_asked : (j : Judgment) (m : ℕ) (C : List ℕ) (a b c d e : ℕ) → ReadAll m C (arguments j) (a ∷ b ∷ c ∷ d ∷ e ∷ []) → asked m C (kind j) a b c d e ≡ some j
-unfolding read_ctx read_dshiftctx read_lookup read_lt read_le read_max read_interval read_ishift read_isubst read_shift read_subst read_dshift read_dsubst read_has read_eq ◌>>=◌
+unfolding read_ctx read_dshiftctx read_lookup read_lt read_le read_max read_interval read_ishift read_isubst read_shift read_subst read_dshift read_dsubst read_has read_eq read_iend ◌>>=◌
 -- written by tools/written.py: read by its arguments
 arguments_asked (ctx d g) _ _ _ _ _ _ _ (h0 then h1 then none_left) = rw (h0, h1)
 arguments_asked (dshiftctx g k h) _ _ _ _ _ _ _ (h0 then h1 then h2 then none_left) = rw (h0, h1, h2)

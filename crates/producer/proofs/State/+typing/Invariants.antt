@@ -5,6 +5,9 @@ use Rattle.producer.specs.Equality.{rounds}
 use Rattle.producer.specs.Machine.{machine}
 use Rattle.producer.proofs.State.+typing.Given as goal
 
+abbrev pub decreases-along : goal.decreases-along
+decreases-along l = 4 * l.left + 2
+
 abbrev pub decreases-app : goal.decreases-app
 decreases-app l = 4 * l.left + 2
 
@@ -45,7 +48,7 @@ abbrev pub decreases-lam : goal.decreases-lam
 decreases-lam l = 4 * l.left + 1
 
 abbrev pub decreases-line : goal.decreases-line
-decreases-line l = 4 * l.left + 2
+decreases-line l = 4 * l.left + 3
 
 abbrev pub decreases-normalize : goal.decreases-normalize
 decreases-normalize l = 4 * l.left
@@ -88,6 +91,9 @@ decreases-turns l = 4 * l.left + 2
 
 abbrev pub decreases-universe : goal.decreases-universe
 decreases-universe l = 4 * l.left
+
+abbrev pub decreases-val : goal.decreases-val
+decreases-val l = 4 * l.left + 2
 
 abbrev pub decreases-var : goal.decreases-var
 decreases-var l = 4 * l.left + 1
