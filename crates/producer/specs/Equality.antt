@@ -1,14 +1,14 @@
 -- Equality: root reductions, normal forms, equal terms. Assumes nothing.
-use Rattle.std.specs.Prelude.{ℕ, zero, suc, eqb}
+use Rattle.std.specs.Prelude.{ℕ, zero, suc, Bool, true, false, eqb}
 use Rattle.std.proofs.Math.Option.{Option, none, some}
 use Rattle.producer.specs.declared.endpoints.End.{End}
 use Rattle.producer.specs.declared.transforms.Op.TheVariants.{Subst, DSubst}
 use Rattle.walk.specs.Rule as R
 use Rattle.walk.specs.Refusal as Refusal
-use Rattle.producer.specs.Machine.{W, Reduction, ◌>>=◌, give, stop, when◌then◌else◌, on_maybe, open_cell, same_quote, at_universe, at_pi, at_lam, at_path, at_plam, at_sigma, at_pair, make_fst, make_cons, emit_eq, refs_1, refs_2, refs_3, refs_5, refs_6}
-use Rattle.producer.specs.Callees.{Callees, for_call}
+use Rattle.producer.specs.Machine.{W, Reduction, ◌>>=◌, give, stop, when◌then◌else◌, on_maybe, open_cell, same_quote, at_universe, at_pi, at_lam, at_path, at_plam, at_sigma, at_pair, make_app, make_papp, make_fst, make_cons, emit_eq, refs_1, refs_2, refs_3, refs_5, refs_6}
+use Rattle.producer.specs.Callees.{Callees, prepared, for_call}
 use Rattle.producer.specs.Endpoints.{by_end}
-use Rattle.producer.specs.Typing.{as_path, as_sigma}
+use Rattle.producer.specs.Typing.{headed, as_path, as_sigma}
 
 unfoldable pub beta_row : Callees → (d g t body r b x y z arg : ℕ) → W (Option Reduction)
 beta_row c d g t body r b x y z arg = do
@@ -107,10 +107,75 @@ unfoldable pub on_step : {A : Type 0} → Option Reduction → (Reduction → W 
 on_step (some s) f z = f s
 on_step none f z = z
 
--- one root reduction, at the type wanted: the term reached and the row of its equation
-unfoldable pub round : Callees → (d g t ty current evidence : ℕ) → W (Option (ℕ × ℕ))
-round c d g t ty current evidence = do
-  next ← c.reduce d g current
+-- the head of an app or a papp, of the type ty: what it goes to, and the row of its equation
+unfoldable pub head_goes : Callees → (d g f ty : ℕ) → W (Option (ℕ × ℕ))
+head_goes c d g f ty = do
+  next ← c.head_step d g f
+  on_step next (λ step. same_quote step.type ty (give (some (step.term, step.row))) (stop Refusal.step_type)) (give none)
+
+-- t goes to out, which is t but for its head; t has the type ty by the row x
+unfoldable pub congruent : Callees → (d g t out ty head other sub x rule : ℕ) → W (Option Reduction)
+congruent c d g t out ty head other sub x rule = do
+  y ← c.check d g out ty
+  row ← emit_eq rule (refs_5 head other sub x y) d g t out ty
+  give (some (record { term = out; type = ty; row = row }))
+
+-- the function f, at the pi type with these parts, goes to f'
+unfoldable pub app_at : Callees → (d g t f' a domain codomain head : ℕ) → W (Option Reduction)
+app_at c d g t f' a domain codomain head = do
+  arg ← c.check d g a domain
+  (ty, sub) ← c.transform codomain (Subst 0 a)
+  x ← c.check d g t ty
+  out ← prepared c (make_app f' a)
+  congruent c d g t out ty head arg sub x R.eq_app_cong
+
+unfoldable pub app_cong : Callees → (d g t f a : ℕ) → W (Option Reduction)
+app_cong c d g t f a = do
+  (pi, _) ← headed c 5 d g f
+  at_pi pi
+      (λ domain codomain. do
+      next ← head_goes c d g f pi
+      on_maybe next (λ f' head. app_at c d g t f' a domain codomain head) (give none))
+      (stop Refusal.no_function)
+
+-- the path p, at the path type with this family, goes to p'
+unfoldable pub papp_at : Callees → (d g t p' r family head : ℕ) → W (Option Reduction)
+papp_at c d g t p' r family head = do
+  dim ← c.interval d r
+  (ty, sub) ← c.transform family (DSubst 0 r)
+  x ← c.check d g t ty
+  out ← prepared c (make_papp p' r)
+  congruent c d g t out ty head dim sub x R.eq_papp_cong
+
+unfoldable pub papp_cong : Callees → (d g t p r : ℕ) → W (Option Reduction)
+papp_cong c d g t p r = do
+  (path, _) ← headed c 8 d g p
+  at_path path
+      (λ family _ _. do
+      next ← head_goes c d g p path
+      on_maybe next (λ p' head. papp_at c d g t p' r family head) (give none))
+      (stop Refusal.no_path)
+
+-- a step at the head, which an app and a papp alone have
+unfoldable pub at_head : Callees → (d g t : ℕ) → W (Option Reduction)
+at_head c d g t =
+    open_cell t λ w.
+    when eqb w.kind 7 then app_cong c d g t w.a w.b
+    else (when eqb w.kind 10 then papp_cong c d g t w.a w.b else give none)
+
+unfoldable pub head_step_body : Callees → (d g t : ℕ) → W (Option Reduction)
+head_step_body c d g t = do
+  next ← c.reduce d g t
+  on_step next (λ step. give (some step)) (at_head c d g t)
+
+-- the step of a walk: at the root alone, or at heads too
+unfoldable pub step_by : Callees → Bool → (d g t : ℕ) → W (Option Reduction)
+step_by c heads d g t = when heads then c.head_step d g t else c.reduce d g t
+
+-- one step, at the type wanted: the term reached and the row of its equation
+unfoldable pub round : Callees → Bool → (d g t ty current evidence : ℕ) → W (Option (ℕ × ℕ))
+round c heads d g t ty current evidence = do
+  next ← step_by c heads d g current
   on_step next
       (λ step.
       same_quote step.type ty
@@ -121,20 +186,26 @@ round c d g t ty current evidence = do
       (stop Refusal.step_type))
       (give none)
 
--- at most `left` reductions: one more is refused
-unfoldable pub rounds : ℕ → Callees → (d g t ty current evidence : ℕ) → W (ℕ × ℕ)
-rounds zero c d g t ty current evidence = do
-  next ← c.reduce d g current
+-- at most `left` steps: one more is refused
+unfoldable pub rounds : ℕ → Callees → Bool → (d g t ty current evidence : ℕ) → W (ℕ × ℕ)
+rounds zero c heads d g t ty current evidence = do
+  next ← step_by c heads d g current
   on_step next (λ step. stop Refusal.reductions) (give (current, evidence))
-rounds (suc left) c d g t ty current evidence = do
-  next ← round c d g t ty current evidence
-  on_maybe next (λ term row. rounds left c d g t ty term row) (give (current, evidence))
+rounds (suc left) c heads d g t ty current evidence = do
+  next ← round c heads d g t ty current evidence
+  on_maybe next (λ term row. rounds left c heads d g t ty term row) (give (current, evidence))
 
-unfoldable pub normalize_body : Callees → (d g t ty : ℕ) → W (ℕ × ℕ)
-normalize_body c d g t ty = do
+unfoldable pub normal_by : Callees → Bool → (d g t ty : ℕ) → W (ℕ × ℕ)
+normal_by c heads d g t ty = do
   typed ← c.check d g t ty
   evidence ← emit_eq R.eq_refl (refs_1 typed) d g t t ty
-  rounds 32 c d g t ty t evidence
+  rounds 32 c heads d g t ty t evidence
+
+unfoldable pub normalize_body : Callees → (d g t ty : ℕ) → W (ℕ × ℕ)
+normalize_body c d g t ty = normal_by c false d g t ty
+
+unfoldable pub head_normalize_body : Callees → (d g t ty : ℕ) → W (ℕ × ℕ)
+head_normalize_body c d g t ty = normal_by c true d g t ty
 
 -- two terms with different quotes
 unfoldable pub equal_normal : Callees → (d g a b ty : ℕ) → W ℕ

@@ -3,7 +3,7 @@ ghost use Rattle.std.specs.Prelude.{◌≡◌};
 ghost use Rattle.producer.specs.Answers.{end, end_step, end_maybe};
 ghost use Rattle.producer.specs.Judgments.{rule_number};
 ghost use Rattle.producer.specs.Machine.{machine};
-ghost use Rattle.producer.specs.Equality.{beta, beta_row, at_end, pbeta, along, at_val, reduce_papp, round, rounds};
+ghost use Rattle.producer.specs.Equality.{beta, beta_row, at_end, pbeta, along, at_val, reduce_papp, head_goes, congruent, app_at, app_cong, papp_at, papp_cong, at_head, step_by, round, rounds};
 ghost use Rattle.producer.specs.Calls.{callees};
 
 use crate::State;
@@ -279,6 +279,225 @@ impl State {
         Ok((s2, Some((out, ty, row))))
     }
 
+    // A step at the root, or where there is none at the head.
+    #[cycle(typing)]
+    pub fn head_step(
+        self,
+        left: u32,
+        rows: &mut [u32],
+        cells: &mut [u32],
+        d: u32,
+        g: u32,
+        t: u32,
+    ) -> Answer<Option<Reduced>>
+        ensures { end_step result rows.new cells.new ≡ (callees left).head_step d g t (machine rows.old cells.old self) }
+    {
+        if left == 0 {
+            return Err(self.refused(Refusal::Nesting));
+        }
+        let down = left - 1;
+        let s0 = self.deeper(down);
+        let (s1, found) = s0.reduce(down, rows, cells, d, g, t)?;
+        let Some((term, ty, row)) = found else {
+            return s1.at_head(down, rows, cells, d, g, t);
+        };
+        Ok((s1, Some((term, ty, row))))
+    }
+
+    // A step at the head, which an app and a papp alone have.
+    #[cycle(typing)]
+    pub fn at_head(
+        self,
+        left: u32,
+        rows: &mut [u32],
+        cells: &mut [u32],
+        d: u32,
+        g: u32,
+        t: u32,
+    ) -> Answer<Option<Reduced>>
+        ensures { end_step result rows.new cells.new ≡ at_head (callees left) d g t (machine rows.old cells.old self) }
+    {
+        let cell = read(cells, t);
+        match Kind::of(cell.kind) {
+            Kind::App => self.app_cong(left, rows, cells, d, g, t, cell.a, cell.b),
+            Kind::Papp => self.papp_cong(left, rows, cells, d, g, t, cell.a, cell.b),
+            _ => Ok((self, None)),
+        }
+    }
+
+    // An app whose function goes a step, at its pi type.
+    #[cycle(typing)]
+    pub fn app_cong(
+        self,
+        left: u32,
+        rows: &mut [u32],
+        cells: &mut [u32],
+        d: u32,
+        g: u32,
+        t: u32,
+        f: u32,
+        a: u32,
+    ) -> Answer<Option<Reduced>>
+        ensures { end_step result rows.new cells.new ≡ app_cong (callees left) d g t f a (machine rows.old cells.old self) }
+    {
+        let (s1, (pi, _)) = self.head(left, rows, cells, d, g, f, Kind::Pi)?;
+        let Shape::Pi(domain, codomain) = shape_of(cells, pi) else {
+            return Err(s1.refused(Refusal::NoFunction));
+        };
+        let (s2, gone) = s1.head_goes(left, rows, cells, d, g, f, pi)?;
+        let Some((out, eq)) = gone else {
+            return Ok((s2, None));
+        };
+        s2.app_at(left, rows, cells, d, g, t, out, a, domain, codomain, eq)
+    }
+
+    // The function of the app `t` goes to `f` by the row `eq`, at the pi type with these parts.
+    #[cycle(typing)]
+    pub fn app_at(
+        self,
+        left: u32,
+        rows: &mut [u32],
+        cells: &mut [u32],
+        d: u32,
+        g: u32,
+        t: u32,
+        f: u32,
+        a: u32,
+        domain: u32,
+        codomain: u32,
+        eq: u32,
+    ) -> Answer<Option<Reduced>>
+        ensures { end_step result rows.new cells.new ≡ app_at (callees left) d g t f a domain codomain eq (machine rows.old cells.old self) }
+    {
+        let (s1, arg) = self.check(left, rows, cells, d, g, a, domain)?;
+        let (s2, (ty, sub)) = s1.transform(left, rows, cells, codomain, Op::Subst(0, a))?;
+        let (s3, x) = s2.check(left, rows, cells, d, g, t, ty)?;
+        let node = Node::new(Kind::App, f, a, 0);
+        let (s4, out) = s3.prepare(left, rows, cells, node)?;
+        s4.congruent(left, rows, cells, d, g, t, out, ty, eq, arg, sub, x, Rule::EqAppCong)
+    }
+
+    // A papp whose path goes a step, at its path type.
+    #[cycle(typing)]
+    pub fn papp_cong(
+        self,
+        left: u32,
+        rows: &mut [u32],
+        cells: &mut [u32],
+        d: u32,
+        g: u32,
+        t: u32,
+        p: u32,
+        r: u32,
+    ) -> Answer<Option<Reduced>>
+        ensures { end_step result rows.new cells.new ≡ papp_cong (callees left) d g t p r (machine rows.old cells.old self) }
+    {
+        let (s1, (path, _)) = self.head(left, rows, cells, d, g, p, Kind::Path)?;
+        let Shape::Path(family, _, _) = shape_of(cells, path) else {
+            return Err(s1.refused(Refusal::NoPath));
+        };
+        let (s2, gone) = s1.head_goes(left, rows, cells, d, g, p, path)?;
+        let Some((out, eq)) = gone else {
+            return Ok((s2, None));
+        };
+        s2.papp_at(left, rows, cells, d, g, t, out, r, family, eq)
+    }
+
+    // The path of the papp `t` goes to `p` by the row `eq`, at the path type with this family.
+    #[cycle(typing)]
+    pub fn papp_at(
+        self,
+        left: u32,
+        rows: &mut [u32],
+        cells: &mut [u32],
+        d: u32,
+        g: u32,
+        t: u32,
+        p: u32,
+        r: u32,
+        family: u32,
+        eq: u32,
+    ) -> Answer<Option<Reduced>>
+        ensures { end_step result rows.new cells.new ≡ papp_at (callees left) d g t p r family eq (machine rows.old cells.old self) }
+    {
+        let (s1, dim) = self.interval(left, rows, cells, d, r)?;
+        let (s2, (ty, sub)) = s1.transform(left, rows, cells, family, Op::DSubst(0, r))?;
+        let (s3, x) = s2.check(left, rows, cells, d, g, t, ty)?;
+        let node = Node::new(Kind::Papp, p, r, 0);
+        let (s4, out) = s3.prepare(left, rows, cells, node)?;
+        s4.congruent(left, rows, cells, d, g, t, out, ty, eq, dim, sub, x, Rule::EqPappCong)
+    }
+
+    // What the head `f`, of the type `ty`, goes to, with the row; refuses (14) a step at a type with another quote.
+    #[cycle(typing)]
+    pub fn head_goes(
+        self,
+        left: u32,
+        rows: &mut [u32],
+        cells: &mut [u32],
+        d: u32,
+        g: u32,
+        f: u32,
+        ty: u32,
+    ) -> Answer<Option<(u32, u32)>>
+        ensures { end_maybe result rows.new cells.new ≡ head_goes (callees left) d g f ty (machine rows.old cells.old self) }
+    {
+        let (s1, found) = self.head_step(left, rows, cells, d, g, f)?;
+        let Some((term, at, row)) = found else {
+            return Ok((s1, None));
+        };
+        if !same_quote(cells, at, ty) {
+            return Err(s1.refused(Refusal::StepType));
+        }
+        Ok((s1, Some((term, row))))
+    }
+
+    // `t` goes to `out`, which is `t` but for its head; `t` has the type `ty` by the row `x`.
+    #[cycle(typing)]
+    pub fn congruent(
+        self,
+        left: u32,
+        rows: &mut [u32],
+        cells: &mut [u32],
+        d: u32,
+        g: u32,
+        t: u32,
+        out: u32,
+        ty: u32,
+        eq: u32,
+        other: u32,
+        sub: u32,
+        x: u32,
+        rule: Rule,
+    ) -> Answer<Option<Reduced>>
+        ensures { end_step result rows.new cells.new ≡ congruent (callees left) d g t out ty eq other sub x (rule_number rule) (machine rows.old cells.old self) }
+    {
+        let (s1, y) = self.check(left, rows, cells, d, g, out, ty)?;
+        let refs = cite([eq, other, sub, x, y]);
+        let (s2, row) = s1.emit_eq(rows, cells, rule, refs, d, g, t, out, ty)?;
+        Ok((s2, Some((out, ty, row))))
+    }
+
+    // The step of a walk: at the root alone, or at heads too.
+    #[cycle(typing)]
+    pub fn advance(
+        self,
+        left: u32,
+        rows: &mut [u32],
+        cells: &mut [u32],
+        d: u32,
+        g: u32,
+        t: u32,
+        heads: bool,
+    ) -> Answer<Option<Reduced>>
+        ensures { end_step result rows.new cells.new ≡ step_by (callees left) heads d g t (machine rows.old cells.old self) }
+    {
+        if heads {
+            return self.head_step(left, rows, cells, d, g, t);
+        }
+        self.reduce(left, rows, cells, d, g, t)
+    }
+
     // The term with its root reduced while that goes, and the row of the equation.
     #[cycle(typing)]
     pub fn normalize(
@@ -300,10 +519,34 @@ impl State {
         let s0 = self.deeper(down);
         let (s1, typed) = s0.check(down, rows, cells, d, g, t, ty)?;
         let (s2, evidence) = s1.emit_eq(rows, cells, Rule::EqRefl, cite([typed]), d, g, t, t, ty)?;
-        s2.turns(down, rows, cells, d, g, t, ty, evidence)
+        s2.turns(down, rows, cells, d, g, t, ty, evidence, false)
     }
 
-    // At most 32 root reductions of `t`, which is equal to itself by the row `evidence`; refuses (15) one more.
+    // The same with steps at heads too.
+    #[cycle(typing)]
+    pub fn head_normalize(
+        self,
+        left: u32,
+        rows: &mut [u32],
+        cells: &mut [u32],
+        d: u32,
+        g: u32,
+        t: u32,
+        ty: u32,
+    ) -> Answer<(u32, u32)>
+        ensures { end result rows.new cells.new ≡ (callees left).head_normalize d g t ty (machine rows.old cells.old self) }
+    {
+        if left == 0 {
+            return Err(self.refused(Refusal::Nesting));
+        }
+        let down = left - 1;
+        let s0 = self.deeper(down);
+        let (s1, typed) = s0.check(down, rows, cells, d, g, t, ty)?;
+        let (s2, evidence) = s1.emit_eq(rows, cells, Rule::EqRefl, cite([typed]), d, g, t, t, ty)?;
+        s2.turns(down, rows, cells, d, g, t, ty, evidence, true)
+    }
+
+    // At most 32 steps of `t`, which is equal to itself by the row `evidence`; refuses (15) one more.
     #[cycle(typing)]
     pub fn turns(
         self,
@@ -315,14 +558,15 @@ impl State {
         t: u32,
         ty: u32,
         evidence: u32,
+        heads: bool,
     ) -> Answer<(u32, u32)>
-        ensures { end result rows.new cells.new ≡ rounds 32 (callees left) d g t ty t evidence (machine rows.old cells.old self) }
+        ensures { end result rows.new cells.new ≡ rounds 32 (callees left) heads d g t ty t evidence (machine rows.old cells.old self) }
     {
         let mut s = self;
         let mut current = t;
         let mut row = evidence;
         for _ in 0..32u32 {
-            let (s1, reached) = s.turn(left, rows, cells, d, g, t, ty, current, row)?;
+            let (s1, reached) = s.turn(left, rows, cells, d, g, t, ty, current, row, heads)?;
             let Some((term, x)) = reached else {
                 return Ok((s1, (current, row)));
             };
@@ -330,14 +574,14 @@ impl State {
             current = term;
             row = x;
         }
-        let (s1, further) = s.reduce(left, rows, cells, d, g, current)?;
+        let (s1, further) = s.advance(left, rows, cells, d, g, current, heads)?;
         match further {
             Some(_) => Err(s1.refused(Refusal::Reductions)),
             None => Ok((s1, (current, row))),
         }
     }
 
-    // One root reduction, at the type wanted; refuses (14) one at a type with another quote.
+    // One step, at the type wanted; refuses (14) one at a type with another quote.
     #[cycle(typing)]
     pub fn turn(
         self,
@@ -350,10 +594,11 @@ impl State {
         ty: u32,
         current: u32,
         evidence: u32,
+        heads: bool,
     ) -> Answer<Option<(u32, u32)>>
-        ensures { end_maybe result rows.new cells.new ≡ round (callees left) d g t ty current evidence (machine rows.old cells.old self) }
+        ensures { end_maybe result rows.new cells.new ≡ round (callees left) heads d g t ty current evidence (machine rows.old cells.old self) }
     {
-        let (s1, reduced) = self.reduce(left, rows, cells, d, g, current)?;
+        let (s1, reduced) = self.advance(left, rows, cells, d, g, current, heads)?;
         let Some((term, at, step)) = reduced else {
             return Ok((s1, None));
         };

@@ -156,6 +156,10 @@ pub fn enter_two(
         let (s, (normal, row)) = s1.normalize(left, rows, cells, d, g, t, u)?;
         return Ok((s, (row, quote(cells, normal))));
     }
+    if code == Code::Head as u8 {
+        let (s, (normal, row)) = s1.head_normalize(left, rows, cells, d, g, t, u)?;
+        return Ok((s, (row, quote(cells, normal))));
+    }
     enter_equal(s1, left, bytes, next, rows, cells, d, g, t, u)
 }
 
