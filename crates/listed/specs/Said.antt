@@ -171,6 +171,7 @@ pub data ResultIn (C : List ℕ) (x : ℕ) : Code → Result → Type 0 where
   of_check : ResultIn C x c_check no_result
   of_normalise : {t : Term} → QuoteCell C x (quote t) → ResultIn C x c_normalise (a_term t)
   of_equal : ResultIn C x c_equal no_result
+  of_head : {t : Term} → QuoteCell C x (quote t) → ResultIn C x c_head (a_term t)
 
 -- An accepted call has its result in the word; a refused one has none.
 pub data Ended (C : List ℕ) (x : ℕ) (c : Code) : ℕ → Result → Type 0 where
