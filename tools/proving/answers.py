@@ -53,4 +53,5 @@ RULED = {'tmake': 'law.node_rule _'}
 DIRECT = ('refused',)
 
 # The laws of a loop, by its function's name: of a turn, and of the end. The loop's invariant is a bound and an equation.
-LOOPS = {'turns': ('law.rounds_turn _ _ _ _ _ _ _ _ _ _', 'law.rounds_over _ _ _ _ _ _ _ _ _ _')}
+LAWS_OF_TURNS = ('law.rounds_turn _ _ _ _ _ _ _ _ _ _', 'law.rounds_over _ _ _ _ _ _ _ _ _ _')
+LOOPS = {'turns': LAWS_OF_TURNS, 'head_turns': LAWS_OF_TURNS}

@@ -134,8 +134,8 @@ app_cong c d g t f a = do
   (pi, _) ← headed c 5 d g f
   at_pi pi
       (λ domain codomain. do
-      next ← head_goes c d g f pi
-      on_maybe next (λ f' head. app_at c d g t f' a domain codomain head) (give none))
+        next ← head_goes c d g f pi
+        on_maybe next (λ f' head. app_at c d g t f' a domain codomain head) (give none))
       (stop Refusal.no_function)
 
 -- the path p, at the path type with this family, goes to p'
@@ -152,8 +152,8 @@ papp_cong c d g t p r = do
   (path, _) ← headed c 8 d g p
   at_path path
       (λ family _ _. do
-      next ← head_goes c d g p path
-      on_maybe next (λ p' head. papp_at c d g t p' r family head) (give none))
+        next ← head_goes c d g p path
+        on_maybe next (λ p' head. papp_at c d g t p' r family head) (give none))
       (stop Refusal.no_path)
 
 -- a step at the head, which an app and a papp alone have
@@ -169,8 +169,9 @@ head_step_body c d g t = do
   on_step next (λ step. give (some step)) (at_head c d g t)
 
 -- the step of a walk: at the root alone, or at heads too
-unfoldable pub step_by : Callees → Bool → (d g t : ℕ) → W (Option Reduction)
-step_by c heads d g t = when heads then c.head_step d g t else c.reduce d g t
+abbrev pub step_by : Callees → Bool → (d g t : ℕ) → W (Option Reduction)
+step_by c true d g t = c.head_step d g t
+step_by c false d g t = c.reduce d g t
 
 -- one step, at the type wanted: the term reached and the row of its equation
 unfoldable pub round : Callees → Bool → (d g t ty current evidence : ℕ) → W (Option (ℕ × ℕ))

@@ -3,7 +3,7 @@ ghost use Rattle.std.specs.Prelude.{◌≡◌};
 ghost use Rattle.producer.specs.Answers.{end, end_step, end_maybe};
 ghost use Rattle.producer.specs.Judgments.{rule_number};
 ghost use Rattle.producer.specs.Machine.{machine};
-ghost use Rattle.producer.specs.Equality.{beta, beta_row, at_end, pbeta, along, at_val, reduce_papp, head_goes, congruent, app_at, app_cong, papp_at, papp_cong, at_head, step_by, round, rounds};
+ghost use Rattle.producer.specs.Equality.{beta, beta_row, at_end, pbeta, along, at_val, reduce_papp, head_goes, congruent, app_at, app_cong, papp_at, papp_cong, at_head, round, rounds};
 ghost use Rattle.producer.specs.Calls.{callees};
 
 use crate::State;
@@ -374,7 +374,21 @@ impl State {
         let (s3, x) = s2.check(left, rows, cells, d, g, t, ty)?;
         let node = Node::new(Kind::App, f, a, 0);
         let (s4, out) = s3.prepare(left, rows, cells, node)?;
-        s4.congruent(left, rows, cells, d, g, t, out, ty, eq, arg, sub, x, Rule::EqAppCong)
+        s4.congruent(
+            left,
+            rows,
+            cells,
+            d,
+            g,
+            t,
+            out,
+            ty,
+            eq,
+            arg,
+            sub,
+            x,
+            Rule::EqAppCong,
+        )
     }
 
     // A papp whose path goes a step, at its path type.
@@ -425,7 +439,21 @@ impl State {
         let (s3, x) = s2.check(left, rows, cells, d, g, t, ty)?;
         let node = Node::new(Kind::Papp, p, r, 0);
         let (s4, out) = s3.prepare(left, rows, cells, node)?;
-        s4.congruent(left, rows, cells, d, g, t, out, ty, eq, dim, sub, x, Rule::EqPappCong)
+        s4.congruent(
+            left,
+            rows,
+            cells,
+            d,
+            g,
+            t,
+            out,
+            ty,
+            eq,
+            dim,
+            sub,
+            x,
+            Rule::EqPappCong,
+        )
     }
 
     // What the head `f`, of the type `ty`, goes to, with the row; refuses (14) a step at a type with another quote.
@@ -478,26 +506,6 @@ impl State {
         Ok((s2, Some((out, ty, row))))
     }
 
-    // The step of a walk: at the root alone, or at heads too.
-    #[cycle(typing)]
-    pub fn advance(
-        self,
-        left: u32,
-        rows: &mut [u32],
-        cells: &mut [u32],
-        d: u32,
-        g: u32,
-        t: u32,
-        heads: bool,
-    ) -> Answer<Option<Reduced>>
-        ensures { end_step result rows.new cells.new ≡ step_by (callees left) heads d g t (machine rows.old cells.old self) }
-    {
-        if heads {
-            return self.head_step(left, rows, cells, d, g, t);
-        }
-        self.reduce(left, rows, cells, d, g, t)
-    }
-
     // The term with its root reduced while that goes, and the row of the equation.
     #[cycle(typing)]
     pub fn normalize(
@@ -519,10 +527,82 @@ impl State {
         let s0 = self.deeper(down);
         let (s1, typed) = s0.check(down, rows, cells, d, g, t, ty)?;
         let (s2, evidence) = s1.emit_eq(rows, cells, Rule::EqRefl, cite([typed]), d, g, t, t, ty)?;
-        s2.turns(down, rows, cells, d, g, t, ty, evidence, false)
+        s2.turns(down, rows, cells, d, g, t, ty, evidence)
     }
 
-    // The same with steps at heads too.
+    // At most 32 root reductions of `t`, which is equal to itself by the row `evidence`; refuses (15) one more.
+    #[cycle(typing)]
+    pub fn turns(
+        self,
+        left: u32,
+        rows: &mut [u32],
+        cells: &mut [u32],
+        d: u32,
+        g: u32,
+        t: u32,
+        ty: u32,
+        evidence: u32,
+    ) -> Answer<(u32, u32)>
+        ensures { end result rows.new cells.new ≡ rounds 32 (callees left) false d g t ty t evidence (machine rows.old cells.old self) }
+    {
+        let mut s = self;
+        let mut current = t;
+        let mut row = evidence;
+        for _ in 0..32u32 {
+            let (s1, reached) = s.turn(left, rows, cells, d, g, t, ty, current, row)?;
+            let Some((term, x)) = reached else {
+                return Ok((s1, (current, row)));
+            };
+            s = s1;
+            current = term;
+            row = x;
+        }
+        let (s1, further) = s.reduce(left, rows, cells, d, g, current)?;
+        match further {
+            Some(_) => Err(s1.refused(Refusal::Reductions)),
+            None => Ok((s1, (current, row))),
+        }
+    }
+
+    // One root reduction, at the type wanted; refuses (14) one at a type with another quote.
+    #[cycle(typing)]
+    pub fn turn(
+        self,
+        left: u32,
+        rows: &mut [u32],
+        cells: &mut [u32],
+        d: u32,
+        g: u32,
+        t: u32,
+        ty: u32,
+        current: u32,
+        evidence: u32,
+    ) -> Answer<Option<(u32, u32)>>
+        ensures { end_maybe result rows.new cells.new ≡ round (callees left) false d g t ty current evidence (machine rows.old cells.old self) }
+    {
+        let (s1, reduced) = self.reduce(left, rows, cells, d, g, current)?;
+        let Some((term, at, step)) = reduced else {
+            return Ok((s1, None));
+        };
+        if !same_quote(cells, at, ty) {
+            return Err(s1.refused(Refusal::StepType));
+        }
+        let (s2, _) = s1.check(left, rows, cells, d, g, term, ty)?;
+        let (s3, row) = s2.emit_eq(
+            rows,
+            cells,
+            Rule::EqTrans,
+            cite([evidence, step]),
+            d,
+            g,
+            t,
+            term,
+            ty,
+        )?;
+        Ok((s3, Some((term, row))))
+    }
+
+    // The same with steps at heads too. It is written again so that `normalize` keeps its instructions.
     #[cycle(typing)]
     pub fn head_normalize(
         self,
@@ -543,12 +623,12 @@ impl State {
         let s0 = self.deeper(down);
         let (s1, typed) = s0.check(down, rows, cells, d, g, t, ty)?;
         let (s2, evidence) = s1.emit_eq(rows, cells, Rule::EqRefl, cite([typed]), d, g, t, t, ty)?;
-        s2.turns(down, rows, cells, d, g, t, ty, evidence, true)
+        s2.head_turns(down, rows, cells, d, g, t, ty, evidence)
     }
 
-    // At most 32 steps of `t`, which is equal to itself by the row `evidence`; refuses (15) one more.
+    // At most 32 such steps.
     #[cycle(typing)]
-    pub fn turns(
+    pub fn head_turns(
         self,
         left: u32,
         rows: &mut [u32],
@@ -558,15 +638,14 @@ impl State {
         t: u32,
         ty: u32,
         evidence: u32,
-        heads: bool,
     ) -> Answer<(u32, u32)>
-        ensures { end result rows.new cells.new ≡ rounds 32 (callees left) heads d g t ty t evidence (machine rows.old cells.old self) }
+        ensures { end result rows.new cells.new ≡ rounds 32 (callees left) true d g t ty t evidence (machine rows.old cells.old self) }
     {
         let mut s = self;
         let mut current = t;
         let mut row = evidence;
         for _ in 0..32u32 {
-            let (s1, reached) = s.turn(left, rows, cells, d, g, t, ty, current, row, heads)?;
+            let (s1, reached) = s.head_turn(left, rows, cells, d, g, t, ty, current, row)?;
             let Some((term, x)) = reached else {
                 return Ok((s1, (current, row)));
             };
@@ -574,16 +653,16 @@ impl State {
             current = term;
             row = x;
         }
-        let (s1, further) = s.advance(left, rows, cells, d, g, current, heads)?;
+        let (s1, further) = s.head_step(left, rows, cells, d, g, current)?;
         match further {
             Some(_) => Err(s1.refused(Refusal::Reductions)),
             None => Ok((s1, (current, row))),
         }
     }
 
-    // One step, at the type wanted; refuses (14) one at a type with another quote.
+    // One such step.
     #[cycle(typing)]
-    pub fn turn(
+    pub fn head_turn(
         self,
         left: u32,
         rows: &mut [u32],
@@ -594,11 +673,10 @@ impl State {
         ty: u32,
         current: u32,
         evidence: u32,
-        heads: bool,
     ) -> Answer<Option<(u32, u32)>>
-        ensures { end_maybe result rows.new cells.new ≡ round (callees left) heads d g t ty current evidence (machine rows.old cells.old self) }
+        ensures { end_maybe result rows.new cells.new ≡ round (callees left) true d g t ty current evidence (machine rows.old cells.old self) }
     {
-        let (s1, reduced) = self.advance(left, rows, cells, d, g, current, heads)?;
+        let (s1, reduced) = self.head_step(left, rows, cells, d, g, current)?;
         let Some((term, at, step)) = reduced else {
             return Ok((s1, None));
         };

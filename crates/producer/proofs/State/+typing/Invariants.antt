@@ -1,12 +1,10 @@
 -- The nesting left falls at each function that is entered; between two entries, the second number of a member does.
 use Rattle.std.proofs.Common.{◌≡◌, ◌*◌, ◌+◌, ◌-◌, ◌≤◌}
+use Rattle.std.specs.Prelude.{true, false}
 use Rattle.producer.specs.Calls.{callees}
 use Rattle.producer.specs.Equality.{rounds}
 use Rattle.producer.specs.Machine.{machine}
 use Rattle.producer.proofs.State.+typing.Given as goal
-
-abbrev pub decreases-advance : goal.decreases-advance
-decreases-advance l = 5 * l.left + 1
 
 abbrev pub decreases-along : goal.decreases-along
 decreases-along l = 5 * l.left + 2
@@ -65,6 +63,12 @@ decreases-head_normalize l = 5 * l.left
 abbrev pub decreases-head_step : goal.decreases-head_step
 decreases-head_step l = 5 * l.left
 
+abbrev pub decreases-head_turn : goal.decreases-head_turn
+decreases-head_turn l = 5 * l.left + 1
+
+abbrev pub decreases-head_turns : goal.decreases-head_turns
+decreases-head_turns l = 5 * l.left + 2
+
 abbrev pub decreases-infer : goal.decreases-infer
 decreases-infer l = 5 * l.left
 
@@ -114,10 +118,10 @@ abbrev pub decreases-step : goal.decreases-step
 decreases-step l = 5 * l.left + 1
 
 abbrev pub decreases-turn : goal.decreases-turn
-decreases-turn l = 5 * l.left + 2
+decreases-turn l = 5 * l.left + 1
 
 abbrev pub decreases-turns : goal.decreases-turns
-decreases-turns l = 5 * l.left + 3
+decreases-turns l = 5 * l.left + 2
 
 abbrev pub decreases-universe : goal.decreases-universe
 decreases-universe l = 5 * l.left
@@ -128,6 +132,10 @@ decreases-val l = 5 * l.left + 2
 abbrev pub decreases-var : goal.decreases-var
 decreases-var l = 5 * l.left + 1
 
+abbrev pub invariant-head_turns-loop : goal.invariant-head_turns-loop
+invariant-head_turns-loop l =
+    (l.counter ≤ 32) × (rounds 32 (callees l.left) true l.d l.g l.t l.ty l.t l.evidence (machine l.fn.rows l.fn.cells l.fn.self) ≡ rounds (32 - l.counter) (callees l.left) true l.d l.g l.t l.ty l.current l.row (machine l.rows l.cells l.s))
+
 abbrev pub invariant-turns-loop : goal.invariant-turns-loop
 invariant-turns-loop l =
-    (l.counter ≤ 32) × (rounds 32 (callees l.left) l.heads l.d l.g l.t l.ty l.t l.evidence (machine l.fn.rows l.fn.cells l.fn.self) ≡ rounds (32 - l.counter) (callees l.left) l.heads l.d l.g l.t l.ty l.current l.row (machine l.rows l.cells l.s))
+    (l.counter ≤ 32) × (rounds 32 (callees l.left) false l.d l.g l.t l.ty l.t l.evidence (machine l.fn.rows l.fn.cells l.fn.self) ≡ rounds (32 - l.counter) (callees l.left) false l.d l.g l.t l.ty l.current l.row (machine l.rows l.cells l.s))
