@@ -23,7 +23,6 @@ UNFOLD = {
     'val': 'as_path',
     'equal': 'equal_normal',
     'normalize': 'normal_by',
-    'head_normalize': 'normal_by',
 }
 
 # Those of them that another crate defines: that value which the check computes.
@@ -53,5 +52,4 @@ RULED = {'tmake': 'law.node_rule _'}
 DIRECT = ('refused',)
 
 # The laws of a loop, by its function's name: of a turn, and of the end. The loop's invariant is a bound and an equation.
-LAWS_OF_TURNS = ('law.rounds_turn _ _ _ _ _ _ _ _ _ _', 'law.rounds_over _ _ _ _ _ _ _ _ _ _')
-LOOPS = {'turns': LAWS_OF_TURNS, 'head_turns': LAWS_OF_TURNS}
+LOOPS = {'turns': ('law.rounds_turn _ _ _ _ _ _ _ _ _ _', 'law.rounds_over _ _ _ _ _ _ _ _ _ _')}

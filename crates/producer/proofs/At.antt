@@ -25,7 +25,8 @@ use Rattle.producer.specs.Endpoints.{endpoint_body}
 use Rattle.producer.specs.Transforms.{rule_of, transform_body, under_body}
 use Rattle.producer.specs.Contexts.{lookup_body, dshiftctx_body}
 use Rattle.producer.specs.Typing.{ctx_body, infer_body, universe_body, check_body, expose_body}
-use Rattle.producer.specs.Equality.{normalize_body, head_normalize_body, equal_body, reduce_body, head_step_body, step_by, round, rounds, on_step}
+use Rattle.producer.specs.Equality.{normalize_body, equal_body, reduce_body, step_by, round, rounds, on_step}
+use Rattle.producer.specs.Heads.{head_normalize_body, head_step_body}
 
 -- where `?` returns early, the refusal is the one that was met
 pub residual : {A E : Type 0} (r : Result A E) (e : E) → IsErrAnd r (λ x. x ≡ e) → r ≡ Err e

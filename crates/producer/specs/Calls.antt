@@ -9,7 +9,8 @@ use Rattle.producer.specs.Endpoints.{endpoint_body}
 use Rattle.producer.specs.Transforms.{transform_body, under_body}
 use Rattle.producer.specs.Contexts.{lookup_body, dshiftctx_body}
 use Rattle.producer.specs.Typing.{ctx_body, infer_body, universe_body, check_body, expose_body}
-use Rattle.producer.specs.Equality.{normalize_body, head_normalize_body, equal_body, reduce_body, head_step_body}
+use Rattle.producer.specs.Equality.{normalize_body, equal_body, reduce_body}
+use Rattle.producer.specs.Heads.{head_normalize_body, head_step_body}
 
 -- with nothing left each is refused
 unfoldable pub none_left : Callees

@@ -12,7 +12,8 @@ pub mod endpoints; // endpoint
 pub mod transforms; // transform, under
 pub mod contexts; // dshiftctx, lookup
 pub mod typing; // ctx, infer, universe, check, expose
-pub mod equality; // normalize, equal, reduce, head_normalize, head_step
+pub mod equality; // normalize, equal, reduce
+pub mod heads; // head_normalize, head_step
 
 // The counts, which travel by value through methods that give them back. They stand at the crate's root, so that paths to them are short
 // (docs/DECISIONS.md, "Short names").
