@@ -42,7 +42,8 @@ def node(kind):
 
 NODES = {kind.name: node(kind) for kind in TERMS + INTERVALS}
 NAT, ZERO, I0, I1 = (NODES[name] for name in ('nat', 'zero', 'i0', 'i1'))
-u, v, pi, lam, app, path, plam, papp, dim, neg = (NODES[name] for name in 'u v pi lam app path plam papp dim neg'.split())
+u, v, pi, lam, app, path, plam, papp = (NODES[name] for name in 'u v pi lam app path plam papp'.split())
+dim, neg, meet, join = (NODES[name] for name in 'dim neg meet join'.split())
 sigma, pair, fst, snd = (NODES[name] for name in 'sigma pair fst snd'.split())
 
 # Bytes that are no code, no kind of a term, no kind of an interval: next to those that are.
@@ -276,6 +277,28 @@ def pairs():
     case('pair-ends-early', [100, 0, 2, 0, 0] + pair(both, ZERO, []))
 
 
+def long_ends():
+    say('Long endpoints: decided by the left part, by the right one, by both; none; a plam, whose interval is not worked out.')
+    p = path(NAT, ZERO, v(0))
+    at = lambda r: call(4, 1, [NAT, p], [papp(v(0), r), NAT])
+    case('by-one-part', run(100, at(meet(I0, dim(0))), at(join(dim(0), I1))))
+    case('by-both-parts', run(100, at(join(I0, neg(I1))), at(meet(I1, neg(I0)))))
+    case('no-end', run(100, at(dim(0)), at(meet(I1, dim(0)))))
+    case('plam-at-neg-i1', run(100, call(4, 0, [], [papp(plam(NAT, ZERO), neg(I1)), NAT])))
+    say('The deepest interval. A limit at which ten negs and their i1 can be typed and not worked out, and one more.')
+    case('end-31-deep', run(100, at(times(31, neg, I0))))
+    deep_end = papp(v(0), times(10, neg, I1))
+    typed_first = [call(2, 0, [NAT, p], [deep_end]), call(4, 0, [NAT, p], [deep_end, NAT])]
+    case('end-limit-12', run(12, *typed_first))
+    case('end-limit-13', run(13, *typed_first))
+    say('The rows of an end, of its equation and none of them fit; the end has another type at the interval as it is written.')
+    for rows in (20, 21, 23, 24):
+        case('end-rows-%d' % rows, run(100, call(4, 0, [path(NAT, ZERO, ZERO)], [papp(v(0), neg(I1)), NAT])), (24 * rows, 16384, 16384))
+    line = lambda n, r: pi(papp(v(n), r), NAT)
+    types = [path(u(0), NAT, NAT), line(0, I0), line(1, I1), path(line(2, dim(0)), v(1), v(0))]
+    case('end-of-another-type', run(100, call(4, 0, types, [papp(v(0), neg(I1)), line(3, neg(I1))])))
+
+
 def wrapped(*heights):
     "each annotation has to be converted inside the conversion of the next"
     bases = [NAT] + [app(lam(NAT, NAT), v(0))] * (len(heights) - 1)
@@ -323,7 +346,7 @@ SAID = {
     'no-dimension': ((0, 0, 1, ANY, ANY, 0), (17, '-', '-', ANY)),
     'one-dimension': ((0, 0, 1, ANY, ANY, 0), (0, ANY, 'nat', ANY)),
     'end-0': ((0, 0, 1, ANY, ANY, 0), (0, ANY, 'zero', ANY)),
-    'neg-i1': ((0, 0, 1, ANY, ANY, 0), (0, ANY, '(papp (v 0) (neg i1))', ANY)),
+    'neg-i1': ((0, 0, 1, 24, 18, 0), (0, 23, 'zero', 10)),
     'three-cells': ((0, 0, 1, 2, 3, 0), (20, '-', '-', ANY)),
     'limit-2': ((0, 0, 1, 0, ANY, 0), (19, '-', '-', 2)),
     'header-alone': ((0, 0, 0, 0, 0, 0),),
@@ -344,6 +367,18 @@ SAID = {
     'no-pair-stays': ((0, 0, 1, ANY, ANY, 0), (0, ANY, '(fst (v 0))', ANY)),
     'no-eta': ((0, 0, 1, ANY, ANY, 0), (13, '-', '-', ANY)),
     'depth-33-of-pairs': ((0, 0, 1, 0, 0, 0), (6, '-', '-', 0)),
+    'by-one-part': ((0, 0, 2, ANY, ANY, 0), (0, ANY, 'zero', ANY), (0, ANY, '(v 1)', ANY)),
+    'by-both-parts': ((0, 0, 2, ANY, ANY, 0), (0, ANY, 'zero', ANY), (0, ANY, '(v 1)', ANY)),
+    'no-end': ((0, 0, 2, ANY, ANY, 0), (0, ANY, '(papp (v 0) (dim 0))', ANY), (0, ANY, '(papp (v 0) (meet i1 (dim 0)))', ANY)),
+    'plam-at-neg-i1': ((0, 0, 1, ANY, ANY, 0), (0, ANY, 'zero', ANY)),
+    'end-31-deep': ((0, 0, 1, ANY, ANY, 0), (0, ANY, '(v 1)', ANY)),
+    'end-limit-12': ((0, 0, 2, ANY, ANY, 0), (0, ANY, 'nat', ANY), (19, '-', '-', 12)),
+    'end-limit-13': ((0, 0, 2, ANY, ANY, 0), (0, ANY, 'nat', ANY), (0, ANY, '(v 1)', 13)),
+    'end-rows-20': ((0, 0, 1, 20, ANY, 0), (18, '-', '-', ANY)),
+    'end-rows-21': ((0, 0, 1, 21, ANY, 0), (18, '-', '-', ANY)),
+    'end-rows-23': ((0, 0, 1, 23, ANY, 0), (18, '-', '-', ANY)),
+    'end-rows-24': ((0, 0, 1, 24, 18, 0), (0, 23, 'zero', 10)),
+    'end-of-another-type': ((0, 0, 1, ANY, ANY, 0), (13, '-', '-', ANY)),
     'limit-2-full-store': ((0, 0, 1, 0, 3, 0), (19, '-', '-', 2)),
     'limit-2-one-cell-less': ((0, 0, 1, 0, 2, 0), (20, '-', '-', 1)),
     'limit-1-met': ((0, 0, 2, 1, ANY, 0), (0, 0, '-', 1)),
@@ -396,7 +431,7 @@ HEAD = """\
 
 
 def write_cases():
-    for part in (at_the_edges, slices, whole_runs, call_limits, walks, pairs):
+    for part in (at_the_edges, slices, whole_runs, call_limits, walks, pairs, long_ends):
         part()
     print(HEAD)
     names = set()

@@ -2,12 +2,44 @@
 use Rattle.std.proofs.Common.{arith, refl}
 use borrow.Author.Tests.{eq-eqb, le-ltb, lt-ltb, ne_eqb}
 use Rattle.ast.specs.Words.{up}
-use Rattle.producer.specs.Equality.{at_end, at_ends, beta, equal_body, equal_normal, fst_beta, normalize_body, pbeta, reduce_body, reduce_papp, round, snd_beta}
+use Rattle.producer.specs.Equality.{along, at_end, at_ends, at_val, beta, equal_body, equal_normal, fst_beta, normalize_body, pbeta, reduce_body, reduce_papp, round, snd_beta}
 use Rattle.producer.specs.Machine.{known_or, known_row}
 use Rattle.producer.specs.Typing.{as_path, as_pi, as_sigma, check_body, converted, ctx_body, ctx_cons, expose_body, exposed, find, find_app, find_atom, find_binder, find_compound, find_fst, find_lam, find_pair, find_papp, find_path, find_plam, find_snd, find_var, headed, infer_body, new_infer, pair_typed, path_ends, plam_ends, retyped, universe_body}
 use Rattle.producer.proofs.At as law
 use Rattle.producer.proofs.Steps.{steps, stated}
 use Rattle.producer.proofs.State.+typing.Goals as goal
+
+pub along-returns-in_err-s1 : goal.along-returns-in_err-s1
+unfolding along at_ends as_path steps stated
+along-returns-in_err-s1 t c = rw (law.residual _ _ c.from_residual.ensures.1, ← c.in_err-s1.ensures)
+
+pub along-returns-in_default : goal.along-returns-in_default
+unfolding along at_ends as_path steps stated
+along-returns-in_default t c = rw (← c.in_ok-s1.ensures, ← c.shape_of.ensures, law.not_path _ c.in_default.not-Path, c.refused.ensures)
+
+pub along-returns-in_err-s2 : goal.along-returns-in_err-s2
+unfolding along at_ends as_path steps stated
+along-returns-in_err-s2 t c = rw (← c.in_ok-s1.ensures, ← c.shape_of.ensures, c.in-Path.is, law.residual _ _ c.from_residual-in_err-s2.ensures.1, ← c.in_err-s2.ensures)
+
+pub along-returns-in-Plam : goal.along-returns-in-Plam
+unfolding along at_ends as_path steps stated
+along-returns-in-Plam t c = rw (← c.in_ok-s1.ensures, ← c.shape_of.ensures, c.in-Path.is, ← c.in_ok-s2.ensures, ← c.shape_of-2.ensures, c.in-Plam.is)
+    (rw (← c.pbeta.ensures))
+
+pub along-returns-in-I0 : goal.along-returns-in-I0
+unfolding along at_ends as_path steps stated
+along-returns-in-I0 t c = rw (← c.in_ok-s1.ensures, ← c.shape_of.ensures, c.in-Path.is, ← c.in_ok-s2.ensures, ← c.shape_of-2.ensures, law.not_plam _ c.in_default-shape_of.not-Plam)
+    (rw (← c.read.ensures, law.kind_is _ c.of.ensures c.in-I0.is, ← c.step.ensures))
+
+pub along-returns-in-I1 : goal.along-returns-in-I1
+unfolding along at_ends as_path steps stated
+along-returns-in-I1 t c = rw (← c.in_ok-s1.ensures, ← c.shape_of.ensures, c.in-Path.is, ← c.in_ok-s2.ensures, ← c.shape_of-2.ensures, law.not_plam _ c.in_default-shape_of.not-Plam)
+    (rw (← c.read.ensures, law.kind_is _ c.of.ensures c.in-I1.is, ← c.step-in-I1.ensures))
+
+pub along-returns-in_default-of : goal.along-returns-in_default-of
+unfolding along at_ends as_path steps stated
+along-returns-in_default-of t c = rw (← c.in_ok-s1.ensures, ← c.shape_of.ensures, c.in-Path.is, ← c.in_ok-s2.ensures, ← c.shape_of-2.ensures, law.not_plam _ c.in_default-shape_of.not-Plam)
+    (rw (← c.read.ensures, law.kind_isnt _ c.of.ensures c.in_default-of.not-I0 refl, law.kind_isnt _ c.of.ensures c.in_default-of.not-I1 refl))
 
 pub app-returns-in_err-s1 : goal.app-returns-in_err-s1
 unfolding find_app as_pi steps stated
@@ -385,36 +417,16 @@ lam-returns t c = rw (← c.in_ok-s1.ensures, law.node c.new-context.ensures, �
     (rw (law.node c.new.ensures, ← c.in_ok-s6.ensures, ← c.cite.ensures))
 
 pub line-returns-in_err-s1 : goal.line-returns-in_err-s1
-unfolding reduce_papp at_ends as_path steps stated
+unfolding reduce_papp steps stated
 line-returns-in_err-s1 t c = rw (law.residual _ _ c.from_residual.ensures.1, ← c.in_err-s1.ensures)
 
 pub line-returns-in_default : goal.line-returns-in_default
-unfolding reduce_papp at_ends as_path steps stated
-line-returns-in_default t c = rw (← c.in_ok-s1.ensures, ← c.shape_of.ensures, law.not_path _ c.in_default.not-Path, c.refused.ensures)
+unfolding reduce_papp steps stated
+line-returns-in_default t c = rw (← c.in_ok-s1.ensures, c.in_default.is, ← c.along.ensures)
 
-pub line-returns-in_err-s2 : goal.line-returns-in_err-s2
-unfolding reduce_papp at_ends as_path steps stated
-line-returns-in_err-s2 t c = rw (← c.in_ok-s1.ensures, ← c.shape_of.ensures, c.in-Path.is, law.residual _ _ c.from_residual-in_err-s2.ensures.1, ← c.in_err-s2.ensures)
-
-pub line-returns-in-Plam : goal.line-returns-in-Plam
-unfolding reduce_papp at_ends as_path steps stated
-line-returns-in-Plam t c = rw (← c.in_ok-s1.ensures, ← c.shape_of.ensures, c.in-Path.is, ← c.in_ok-s2.ensures, ← c.shape_of-2.ensures, c.in-Plam.is)
-    (rw (← c.pbeta.ensures))
-
-pub line-returns-in-I0 : goal.line-returns-in-I0
-unfolding reduce_papp at_ends as_path steps stated
-line-returns-in-I0 t c = rw (← c.in_ok-s1.ensures, ← c.shape_of.ensures, c.in-Path.is, ← c.in_ok-s2.ensures, ← c.shape_of-2.ensures, law.not_plam _ c.in_default-shape_of.not-Plam)
-    (rw (← c.read.ensures, law.kind_is _ c.of.ensures c.in-I0.is, ← c.step.ensures))
-
-pub line-returns-in-I1 : goal.line-returns-in-I1
-unfolding reduce_papp at_ends as_path steps stated
-line-returns-in-I1 t c = rw (← c.in_ok-s1.ensures, ← c.shape_of.ensures, c.in-Path.is, ← c.in_ok-s2.ensures, ← c.shape_of-2.ensures, law.not_plam _ c.in_default-shape_of.not-Plam)
-    (rw (← c.read.ensures, law.kind_is _ c.of.ensures c.in-I1.is, ← c.step-in-I1.ensures))
-
-pub line-returns-in_default-of : goal.line-returns-in_default-of
-unfolding reduce_papp at_ends as_path steps stated
-line-returns-in_default-of t c = rw (← c.in_ok-s1.ensures, ← c.shape_of.ensures, c.in-Path.is, ← c.in_ok-s2.ensures, ← c.shape_of-2.ensures, law.not_plam _ c.in_default-shape_of.not-Plam)
-    (rw (← c.read.ensures, law.kind_isnt _ c.of.ensures c.in_default-of.not-I0 refl, law.kind_isnt _ c.of.ensures c.in_default-of.not-I1 refl))
+pub line-returns : goal.line-returns
+unfolding reduce_papp steps stated
+line-returns t c = rw (← c.in_ok-s1.ensures, c.in-Some.is, ← c.val.ensures)
 
 pub normalize-returns-then-left-eq0 : goal.normalize-returns-then-left-eq0
 unfolding normalize_body steps stated
@@ -838,6 +850,37 @@ pub universe-returns : goal.universe-returns
 unfolding universe_body steps stated
 universe-returns t c = rw (law.universe_in _ _ _ _ _ c.if-left-eq0.false, ← c.deeper-s0.ensures, ← c.in_ok-s1.ensures, ← c.shape_of.ensures, law.not_universe _ c.in_default.not-Universe, lt-ltb _ _ c.if-s1-ge32.false)
     (rw (← c.converting-s2.ensures, ← c.sort.ensures, law.ended_end _ _ _, ← c.ended.ensures))
+
+pub val-returns-in_err-s1 : goal.val-returns-in_err-s1
+unfolding at_val as_path steps stated
+val-returns-in_err-s1 t c = rw (law.residual _ _ c.from_residual.ensures.1, ← c.in_err-s1.ensures)
+
+pub val-returns-in_default : goal.val-returns-in_default
+unfolding at_val as_path steps stated
+val-returns-in_default t c = rw (← c.in_ok-s1.ensures, ← c.shape_of.ensures, law.not_path _ c.in_default.not-Path, c.refused.ensures)
+
+pub val-returns-in_err-s2 : goal.val-returns-in_err-s2
+unfolding at_val as_path steps stated
+val-returns-in_err-s2 t c = rw (← c.in_ok-s1.ensures, ← c.shape_of.ensures, c.in-Path.is, law.residual _ _ c.from_residual-in_err-s2.ensures.1, ← c.in_err-s2.ensures)
+
+pub val-returns-in_err-s3 : goal.val-returns-in_err-s3
+unfolding at_val as_path steps stated
+val-returns-in_err-s3 t c = rw (← c.in_ok-s1.ensures, ← c.shape_of.ensures, c.in-Path.is, ← c.in_ok-s2.ensures, law.residual _ _ c.from_residual-in_err-s3.ensures.1, ← c.in_err-s3.ensures)
+
+pub val-returns-in_err-s4 : goal.val-returns-in_err-s4
+unfolding at_val as_path steps stated
+val-returns-in_err-s4 t c = rw (← c.in_ok-s1.ensures, ← c.shape_of.ensures, c.in-Path.is, ← c.in_ok-s2.ensures, ← c.in_ok-s3.ensures, ← c.side-out.ensures)
+    (rw (law.residual _ _ c.from_residual-in_err-s4.ensures.1, ← c.in_err-s4.ensures))
+
+pub val-returns-in_err-s5 : goal.val-returns-in_err-s5
+unfolding at_val as_path steps stated
+val-returns-in_err-s5 t c = rw (← c.in_ok-s1.ensures, ← c.shape_of.ensures, c.in-Path.is, ← c.in_ok-s2.ensures, ← c.in_ok-s3.ensures, ← c.side-out.ensures)
+    (rw (← c.in_ok-s4.ensures, ← c.cite-refs.ensures, ← c.rule.ensures, law.residual _ _ c.from_residual-in_err-s5.ensures.1, ← c.in_err-s5.ensures))
+
+pub val-returns : goal.val-returns
+unfolding at_val as_path steps stated
+val-returns t c = rw (← c.in_ok-s1.ensures, ← c.shape_of.ensures, c.in-Path.is, ← c.in_ok-s2.ensures, ← c.in_ok-s3.ensures, ← c.side-out.ensures)
+    (rw (← c.in_ok-s4.ensures, ← c.cite-refs.ensures, ← c.rule.ensures, ← c.in_ok-s5.ensures))
 
 pub var-returns-in_err-s1 : goal.var-returns-in_err-s1
 unfolding find_var steps stated
