@@ -23,6 +23,8 @@ UNFOLD = {
     'val': 'as_path',
     'equal': 'equal_normal',
     'normalize': 'normal_by',
+    'app_cong': 'pi_of',
+    'papp_cong': 'path_of',
 }
 
 # Those of them that another crate defines: that value which the check computes.

@@ -31,14 +31,17 @@ app_at c d g t f' a domain codomain head = do
   out ← prepared c (make_app f' a)
   congruent c d g t out ty head arg sub x R.eq_app_cong
 
+-- the pi type of f, and its parts
+unfoldable pub pi_of : Callees → (d g f : ℕ) → W (ℕ × ℕ × ℕ)
+pi_of c d g f = do
+  (ty, _) ← headed c 5 d g f
+  at_pi ty (λ a b. give (ty, a, b)) (stop Refusal.no_function)
+
 unfoldable pub app_cong : Callees → (d g t f a : ℕ) → W (Option Reduction)
 app_cong c d g t f a = do
-  (pi, _) ← headed c 5 d g f
-  at_pi pi
-      (λ domain codomain. do
-        next ← head_goes c d g f pi
-        on_maybe next (λ f' head. app_at c d g t f' a domain codomain head) (give none))
-      (stop Refusal.no_function)
+  (pi, domain, codomain) ← pi_of c d g f
+  next ← head_goes c d g f pi
+  on_maybe next (λ f' head. app_at c d g t f' a domain codomain head) (give none)
 
 -- the path p, at the path type with this family, goes to p'
 unfoldable pub papp_at : Callees → (d g t p' r family head : ℕ) → W (Option Reduction)
@@ -49,14 +52,17 @@ papp_at c d g t p' r family head = do
   out ← prepared c (make_papp p' r)
   congruent c d g t out ty head dim sub x R.eq_papp_cong
 
+-- the path type of p, and its family
+unfoldable pub path_of : Callees → (d g p : ℕ) → W (ℕ × ℕ)
+path_of c d g p = do
+  (ty, _) ← headed c 8 d g p
+  at_path ty (λ a _ _. give (ty, a)) (stop Refusal.no_path)
+
 unfoldable pub papp_cong : Callees → (d g t p r : ℕ) → W (Option Reduction)
 papp_cong c d g t p r = do
-  (path, _) ← headed c 8 d g p
-  at_path path
-      (λ family _ _. do
-        next ← head_goes c d g p path
-        on_maybe next (λ p' head. papp_at c d g t p' r family head) (give none))
-      (stop Refusal.no_path)
+  (path, family) ← path_of c d g p
+  next ← head_goes c d g p path
+  on_maybe next (λ p' head. papp_at c d g t p' r family head) (give none)
 
 -- a step at the head, which an app and a papp alone have
 unfoldable pub at_head : Callees → (d g t : ℕ) → W (Option Reduction)
