@@ -70,7 +70,7 @@ module _ {o : Before} {rd : M (Unit {0})} (c : Callees) (d : D.Callees) (L : Lin
   congruent_matches n head other sub rule make g t y making =
       row_then (L.check n g t y) λ x _ e₁.
       calling c _ (absorbs_then _ (L.check_absorbs n _ _ _)) L.ready
-      (λ ys e. preceding _ (the_context (cell_lift (extends_trans e₁ e) g)) (following _ (making ys (extends_trans e₁ e)) (the_term (cell_lift (extends_trans e₁ e) y))))
+      (λ ys e. following _ (preceding _ (the_context (cell_lift (extends_trans e₁ e) g)) (making ys (extends_trans e₁ e))) (the_term (cell_lift (extends_trans e₁ e) y)))
       λ u ys e q.
       let f = extends_trans e₁ e in
       row_then (L.check n (cell_lift f g) q (cell_lift f y)) λ _ _ e₂.
