@@ -244,3 +244,5 @@ for_codes(HEADS, 'codes by number', lambda c: 'is_code %s h = record { code = _;
 for_codes(HEADS, 'terms by code', lambda c: 'terms_in_code c_%s = refl' % c.name)
 for_codes(HEADS, 'few terms', lambda c: 'few_terms (some c_%s) = omega arith' % c.name)
 for_codes(HEADS, 'codes again', lambda c: 'code_again c_%s = refl' % c.name)
+for_codes(HEADS, 'many by number', lambda c: 'many_number c_%s = refl' % c.name)
+for_codes(HEADS, 'many by code', lambda c: 'is_many c_%s e = %s' % (c.name, 'refl' if c.counted else 'absurd (let z : ◌≡◌ {A = ℕ} 0 1 = cc in omega arith)'))

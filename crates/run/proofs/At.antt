@@ -11,6 +11,7 @@ use Rattle.std.specs.Prelude.{Ok, Err}
 use Rattle.producer.specs.Answers.{Answer, end}
 use Rattle.producer.specs.Machine.{Machine, give, stop}
 pub use Rattle.producer.proofs.At.{residual, node}
+use Rattle.run.specs.declared.entry.Spot.{Spot}
 use Rattle.run.specs.Run.{Told, told, turn_end, answered_of, turned, played}
 use Rattle.run.specs.Build.{built_body, built, scoped, scoped_body}
 
@@ -33,26 +34,26 @@ scoped_in zero bytes at g w h = absurd (h refl)
 scoped_in (suc k) bytes at g w h = rw sub-one
 
 -- the answer of a call, over what it leaves
-pub told_end : (answer : Answer (ℕ × ℕ)) (next : ℕ) (R C : List ℕ) → told (end answer R C) next ≡ turn_end (answered_of answer next) R C
+pub told_end : (answer : Answer (ℕ × ℕ)) (next : Spot) (R C : List ℕ) → told (end answer R C) next ≡ turn_end (answered_of answer next) R C
 unfolding told end answered_of
 told_end (Ok (s, (x, y))) next R C = refl
 told_end (Err e) next R C = refl
 
 -- one call played, and none
-pub played_turn : (left room : ℕ) (bytes : List ℕ) (at done : ℕ) (w : Machine) (A : List ℕ) (t : Told) (now : ℕ) → now ≡ room → t ≡ turned now bytes at w → 0 < left → played left room bytes at done w A ≡ played (left - 1) room bytes t.next (up done) t.left (sets A (done * 4) (t.number ∷ t.row ∷ t.result ∷ t.deepest ∷ []))
+pub played_turn : (left room : ℕ) (bytes : List ℕ) (spot : Spot) (done : ℕ) (w : Machine) (A : List ℕ) (t : Told) (now : ℕ) → now ≡ room → t ≡ turned now bytes spot w → 0 < left → played left room bytes spot done w A ≡ played (left - 1) room bytes t.next (up done) t.left (sets A (done * 4) (t.number ∷ t.row ∷ t.result ∷ t.deepest ∷ []))
 unfolding played
-played_turn zero room bytes at done w A t now q e h = absurd (omega arith)
-played_turn (suc left) room bytes at done w A t now q e h = rw (e, q, sub-one)
+played_turn zero room bytes spot done w A t now q e h = absurd (omega arith)
+played_turn (suc left) room bytes spot done w A t now q e h = rw (e, q, sub-one)
 
-pub played_none : (left room : ℕ) (bytes : List ℕ) (at done : ℕ) (w : Machine) (A : List ℕ) → left ≤ 0 → played left room bytes at done w A ≡ record { left = w; answers = A }
+pub played_none : (left room : ℕ) (bytes : List ℕ) (spot : Spot) (done : ℕ) (w : Machine) (A : List ℕ) → left ≤ 0 → played left room bytes spot done w A ≡ record { left = w; answers = A }
 unfolding played
-played_none zero room bytes at done w A h = refl
-played_none (suc left) room bytes at done w A h = absurd (omega arith)
+played_none zero room bytes spot done w A h = refl
+played_none (suc left) room bytes spot done w A h = absurd (omega arith)
 
 -- one of so many calls is played
-pub played_next : (calls i room : ℕ) (bytes : List ℕ) (at : ℕ) (w : Machine) (A : List ℕ) (t : Told) (now : ℕ) → calls < 4294967296 → now ≡ room → t ≡ turned now bytes at w → i < calls → played (calls - i) room bytes at i w A ≡ played (calls - (i + 1)) room bytes t.next (i + 1) t.left (sets A (i * 4) (t.number ∷ t.row ∷ t.result ∷ t.deepest ∷ []))
+pub played_next : (calls i room : ℕ) (bytes : List ℕ) (spot : Spot) (w : Machine) (A : List ℕ) (t : Told) (now : ℕ) → calls < 4294967296 → now ≡ room → t ≡ turned now bytes spot w → i < calls → played (calls - i) room bytes spot i w A ≡ played (calls - (i + 1)) room bytes t.next (i + 1) t.left (sets A (i * 4) (t.number ∷ t.row ∷ t.result ∷ t.deepest ∷ []))
 unfolding up
-played_next calls i room bytes at w A t now b q e h =
+played_next calls i room bytes spot w A t now b q e h =
     let m : (i + 1) % 4294967296 ≡ i + 1 = omega arith in
     let s : calls - i - 1 ≡ calls - (i + 1) = omega arith in
-    rw (played_turn (calls - i) room bytes at i w A t now q e (omega arith), m, s)
+    rw (played_turn (calls - i) room bytes spot i w A t now q e (omega arith), m, s)

@@ -7,3 +7,4 @@ pub mod Same
 pub mod Fixed
 pub mod Reads
 pub mod Rejects
+pub mod RejectsMany

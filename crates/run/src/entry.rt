@@ -13,9 +13,7 @@ use ast::words::put_all;
 use producer::State;
 use producer::answers::{Answer, Refused};
 use ran::Ran;
-use syntax::{
-    Checks, Code, Fitting, STACK, Sent, Unfit, Unread, scan_run, sent_at, size_call, size_draft,
-};
+use syntax::{Code, Fitting, STACK, Unfit, Unread, scan_run, sent_at, size_call, size_draft};
 
 // The row of a refused call.
 const NO_ROW: u32 = 4294967295;
@@ -165,9 +163,9 @@ fn plan_many(bytes: &[u8], at: usize, stack: &mut [u8]) -> Plan
     ensures { result ≡ planned_many (length stack.old) bytes.now at }
 {
     match sent_at(bytes, at, stack) {
-        Ok(Sent { next, checks }) => match checks {
-            Some(Checks { first, count }) => plan_type(bytes, at, first, count, stack),
-            None => alone(Err(Unfit::Refused(Refusal::Count, next)), at),
+        Ok(sent) => match sent.checks {
+            Some(checks) => plan_type(bytes, at, checks.first, checks.count, stack),
+            None => alone(Err(Unfit::Refused(Refusal::Count, sent.next)), at),
         },
         Err(unread) => alone(Err(Unfit::Unread(unread)), at),
     }
@@ -175,7 +173,7 @@ fn plan_many(bytes: &[u8], at: usize, stack: &mut [u8]) -> Plan
 
 // The limits of the call that stands there.
 #[tactic(auto, unfolding(crate::specs::Run::planned))]
-fn plan(bytes: &[u8], spot: Spot, stack: &mut [u8]) -> Plan
+fn plan_next(bytes: &[u8], spot: Spot, stack: &mut [u8]) -> Plan
     ensures { result ≡ planned (length stack.old) bytes.now spot }
 {
     let Spot { at, ty, left } = spot;
@@ -200,7 +198,7 @@ fn step(
 ) -> Turn
     ensures { turn_end result rows.new cells.new ≡ turned (length stack.old) bytes.now spot (machine rows.old cells.old state) }
 {
-    let Plan { size, ty, left } = plan(bytes, spot, stack);
+    let Plan { size, ty, left } = plan_next(bytes, spot, stack);
     let at = spot.at;
     match size {
         Ok(fitting) => {

@@ -79,7 +79,7 @@ pub terms_inside : {bytes : List ℕ} {at end : ℕ} {ts : List Term} → TermsA
 terms_inside no_terms h = h
 terms_inside (next_term l inside e rest) h = terms_inside rest (inside h)
 
-true_false : {A : Type 0} → true ≡ false → A
+pub true_false : {A : Type 0} → true ≡ false → A
 true_false e = absurd (let z : ◌≡◌ {A = ℕ} 0 1 = cc in omega arith)
 
 -- a call

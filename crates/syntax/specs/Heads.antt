@@ -1,13 +1,13 @@
 -- A call's head: its first three bytes.
 use Prim.Native.Nat.{ℕ, zero, suc, ◌+◌, ◌≤◌, ◌<◌}
-use Rattle.std.specs.Prelude.{◌≡◌, refl, List, length, get_or, drop, Ok, Err}
+use Rattle.std.specs.Prelude.{◌≡◌, refl, List, true, eqb, length, get_or, drop, Ok, Err}
 use Rattle.std.proofs.Common.{sym, ap, ◌∙◌, arith}
 use Rattle.std.proofs.Math.Option.{Option, none, some}
 use Rattle.std.proofs.Math.Numerals.{add-one}
 use Rattle.std.proofs.Math.Decide.{dec_lt}
 use Rattle.std.proofs.Math.ListN.{drop_of_length-le, get_or-eq_default}
 use Rattle.std.proofs.Math.Seq.{drop-cons}
-use Rattle.walk.specs.Reader.{Read, got, bad, read_on, ◌>>=◌, ok, byte, meant, one_of, Code, c_context, c_universe, c_infer, c_check, c_normalise, c_equal, c_many, c_head, codes, terms_of, Head, read_head}
+use Rattle.walk.specs.Reader.{Read, got, bad, read_on, ◌>>=◌, ok, byte, meant, one_of, Code, c_context, c_universe, c_infer, c_check, c_normalise, c_equal, c_many, c_head, codes, terms_of, lists_types, Head, read_head}
 use Rattle.syntax.specs.Told.{code_number, highest_code, fault_at, code_told, code_of, head_in, head_of, terms_in}
 use Rattle.syntax.specs.Ends.{Stops, ends, goes_head}
 use Rattle.syntax.specs.declared.scan.Fault.{Fault}
@@ -143,6 +143,31 @@ code_again c_many = refl
 code_again c_head = refl
 
 -- end of codes again
+
+-- The code with many types after it: its byte is no other's.
+pub many_number : (c : Code) → eqb (code_number c) (code_number c_many) ≡ lists_types c
+-- written by tools/written.py: many by number
+many_number c_context = refl
+many_number c_universe = refl
+many_number c_infer = refl
+many_number c_check = refl
+many_number c_normalise = refl
+many_number c_equal = refl
+many_number c_many = refl
+many_number c_head = refl
+-- end of many by number
+
+pub is_many : (c : Code) → lists_types c ≡ true → c ≡ c_many
+-- written by tools/written.py: many by code
+is_many c_context e = absurd (let z : ◌≡◌ {A = ℕ} 0 1 = cc in omega arith)
+is_many c_universe e = absurd (let z : ◌≡◌ {A = ℕ} 0 1 = cc in omega arith)
+is_many c_infer e = absurd (let z : ◌≡◌ {A = ℕ} 0 1 = cc in omega arith)
+is_many c_check e = absurd (let z : ◌≡◌ {A = ℕ} 0 1 = cc in omega arith)
+is_many c_normalise e = absurd (let z : ◌≡◌ {A = ℕ} 0 1 = cc in omega arith)
+is_many c_equal e = absurd (let z : ◌≡◌ {A = ℕ} 0 1 = cc in omega arith)
+is_many c_many e = refl
+is_many c_head e = absurd (let z : ◌≡◌ {A = ℕ} 0 1 = cc in omega arith)
+-- end of many by code
 
 pub few_terms : (c : Option Code) → terms_in c ≤ 3
 unfolding terms_in
