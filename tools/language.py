@@ -253,7 +253,7 @@ CALLS = [
     Call(4, 'normalise', ['t', 'type'], 'normalize'),
     Call(5, 'equal', ['left', 'right', 'type'], 'equal'),
     Call(6, 'many', ['t'], 'check', counted=True),
-    Call(7, 'head', ['t', 'type'], 'head_normalize'),
+    Call(7, 'headwise', ['t', 'type'], 'head_normalize'),
 ]
 
 # ---- Refusals, in the order of their numbers. Of a run as a whole, each with the place that is told:

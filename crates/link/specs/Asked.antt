@@ -5,7 +5,7 @@ use Rattle.producer.specs.Machine.{Machine, machine, new_state, fresh, Result, i
 use Rattle.producer.specs.Callees.{Callees}
 use Rattle.producer.specs.Calls.{callees}
 use Rattle.walk.specs.Syntax.{Interval, I0, I1, Dim, Neg, Meet, Join, Term, Universe, Var, Nat, Zero, Pi, Lam, App, Path, PathLam, PathApp, Sigma, Pair, Fst, Snd, Context, Nil, Cons}
-use Rattle.walk.specs.Reader.{Code, c_context, c_universe, c_infer, c_check, c_normalise, c_equal, c_many, c_head, lists_types, Call}
+use Rattle.walk.specs.Reader.{Code, c_context, c_universe, c_infer, c_check, c_normalise, c_equal, c_many, c_headwise, lists_types, Call}
 use Rattle.walk.specs.Refusal as Refusal
 use Rattle.walk.specs.Limits.{Sized, fits, scope_over, size_over, index_over, size_call}
 use Rattle.walk.specs.Run.{scope_of, nth}
@@ -95,7 +95,7 @@ ask c c_check d g ts w = told (λ row. row) (λ row w. 0) (call_check c d g (nth
 ask c c_normalise d g ts w = told (λ out. out.1) lowest_of (call_normalize c d g (nth ts 0) (nth ts 1) w)
 ask c c_equal d g ts w = told (λ row. row) (λ row w. 0) (call_equal c d g (nth ts 0) (nth ts 1) (nth ts 2) w)
 ask c c_many d g ts w = (turned Refusal.count, w)
-ask c c_head d g ts w = told (λ out. out.1) lowest_of (call_head_normalize c d g (nth ts 0) (nth ts 1) w)
+ask c c_headwise d g ts w = told (λ out. out.1) lowest_of (call_head_normalize c d g (nth ts 0) (nth ts 1) w)
 
 -- deepest starts from 0
 unfoldable pub afresh : Machine → Machine

@@ -14,7 +14,7 @@ pub enum Code {
     Normalise = 4,
     Equal = 5,
     Many = 6,
-    Head = 7,
+    Headwise = 7,
 }
 
 impl Code {
@@ -31,7 +31,7 @@ impl Code {
             4 => Some(Code::Normalise),
             5 => Some(Code::Equal),
             6 => Some(Code::Many),
-            7 => Some(Code::Head),
+            7 => Some(Code::Headwise),
             _ => None,
         }
     }
@@ -56,7 +56,7 @@ impl Code {
             Code::Normalise => 2,
             Code::Equal => 3,
             Code::Many => 1,
-            Code::Head => 2,
+            Code::Headwise => 2,
         }
     }
 
@@ -72,7 +72,7 @@ impl Code {
             Code::Normalise => false,
             Code::Equal => false,
             Code::Many => true,
-            Code::Head => false,
+            Code::Headwise => false,
         }
     }
 }

@@ -5,7 +5,7 @@ use Rattle.walk.specs.Syntax.{Term, Nat, Context, Nil, Cons}
 use Rattle.walk.specs.Refusal as Refusal
 use Rattle.walk.specs.State.{State, Outcome, done, refused, with_deepest}
 use Rattle.walk.specs.Walk.{Callees, callees}
-use Rattle.walk.specs.Reader.{Read, got, bad, Code, CodeDiscrete, c_context, c_universe, c_infer, c_check, c_normalise, c_equal, c_many, c_head, lists_types, Call, read_run}
+use Rattle.walk.specs.Reader.{Read, got, bad, Code, CodeDiscrete, c_context, c_universe, c_infer, c_check, c_normalise, c_equal, c_many, c_headwise, lists_types, Call, read_run}
 use Rattle.walk.specs.Limits.{Sized, fits, scope_over, size_over, index_over, size_call}
 
 -- the answer of a call
@@ -47,7 +47,7 @@ walk c c_check d g ts s = answered (λ row. row) (λ row. no_result) (c.check d 
 walk c c_normalise d g ts s = answered (λ out. out.1) (λ out. a_term out.0) (c.normalize d g (nth ts 0) (nth ts 1) s)
 walk c c_equal d g ts s = answered (λ row. row) (λ row. no_result) (c.equal d g (nth ts 0) (nth ts 1) (nth ts 2) s)
 walk c c_many d g ts s = (refusal Refusal.count 0, s)
-walk c c_head d g ts s = answered (λ out. out.1) (λ out. a_term out.0) (c.head_normalize d g (nth ts 0) (nth ts 1) s)
+walk c c_headwise d g ts s = answered (λ out. out.1) (λ out. a_term out.0) (c.head_normalize d g (nth ts 0) (nth ts 1) s)
 
 -- Under 5, 6 and 7 nothing is walked.
 unfoldable pub play_sized : Sized → Call → State → Answer × State

@@ -8,7 +8,7 @@ use Rattle.producer.specs.Callees.{Callees, prepared}
 use Rattle.producer.specs.Calls.{callees}
 use Rattle.walk.specs.Refusal as Refusal
 use Rattle.walk.specs.Syntax.{Term, Context, Nil, Cons}
-use Rattle.walk.specs.Reader.{Code, c_context, c_universe, c_infer, c_check, c_normalise, c_equal, c_many, c_head, terms_of, lists_types, Call, check_of}
+use Rattle.walk.specs.Reader.{Code, c_context, c_universe, c_infer, c_check, c_normalise, c_equal, c_many, c_headwise, terms_of, lists_types, Call, check_of}
 use Rattle.walk.specs.Limits.{fits, size_terms, size_call}
 use Rattle.walk.specs.Run.{scope_of, nth}
 use Rattle.syntax.specs.Told.{code_number, head_in}
@@ -53,7 +53,7 @@ by_call c c_check d g ts = row_alone (call_check c d g (nth ts 0) (nth ts 1))
 by_call c c_normalise d g ts = row_quoted (call_normalize c d g (nth ts 0) (nth ts 1))
 by_call c c_equal d g ts = row_alone (call_equal c d g (nth ts 0) (nth ts 1) (nth ts 2))
 by_call c c_many d g ts = stop Refusal.count
-by_call c c_head d g ts = row_quoted (call_head_normalize c d g (nth ts 0) (nth ts 1))
+by_call c c_headwise d g ts = row_quoted (call_head_normalize c d g (nth ts 0) (nth ts 1))
 
 -- From one offset to another stand terms that become their cells.
 data Sent (bytes : List ℕ) : ℕ → List Term → ℕ → Type 0 where
@@ -111,10 +111,10 @@ module _ (bytes : List ℕ) (left d : ℕ) (types : List Term) where
   coded at ty c_equal (t ∷ u ∷ []) f l e = absurd (omega (arith, l))
   coded at ty c_equal (t ∷ u ∷ v ∷ x ∷ ts) f l e = absurd (omega (arith, l))
   coded at ty c_many ts f l e = true_false f
-  coded at ty c_head (t ∷ u ∷ []) f l (next_sent {middle = m₁} e (next_sent {middle = m₂} e₂ no_sent)) = result_asked (callees left) types row_quoted quoted_in _ (λ g. build_term t >>= λ x. build_term u >>= λ y. (callees left).head_normalize d g x y) (λ g. rw e (made_then m₁ (build_term t) _ ∙ then_same (build_term t) (λ x. rw e₂ (made_then m₂ (build_term u) _ ∙ sym (quoted_in _ (build_term u) _))) ∙ sym (quoted_in _ (build_term t) _)))
-  coded at ty c_head [] f l e = absurd (omega (arith, l))
-  coded at ty c_head (t ∷ []) f l e = absurd (omega (arith, l))
-  coded at ty c_head (t ∷ u ∷ v ∷ ts) f l e = absurd (omega (arith, l))
+  coded at ty c_headwise (t ∷ u ∷ []) f l (next_sent {middle = m₁} e (next_sent {middle = m₂} e₂ no_sent)) = result_asked (callees left) types row_quoted quoted_in _ (λ g. build_term t >>= λ x. build_term u >>= λ y. (callees left).head_normalize d g x y) (λ g. rw e (made_then m₁ (build_term t) _ ∙ then_same (build_term t) (λ x. rw e₂ (made_then m₂ (build_term u) _ ∙ sym (quoted_in _ (build_term u) _))) ∙ sym (quoted_in _ (build_term t) _)))
+  coded at ty c_headwise [] f l e = absurd (omega (arith, l))
+  coded at ty c_headwise (t ∷ []) f l e = absurd (omega (arith, l))
+  coded at ty c_headwise (t ∷ u ∷ v ∷ ts) f l e = absurd (omega (arith, l))
 
   -- a check, whose type stands elsewhere
   coded_draft : (at ty next end : ℕ) (t u : Term) → built 33 bytes at ≡ made next (build_term t) → built 33 bytes ty ≡ made end (build_term u) → (prepared (callees left) make_nil >>= λ nil. scope_cells types nil >>= λ g. by_code left bytes at ty (code_number c_many) d g) ≡ by_call (callees left) c_check d (scope_of Nil types) (t ∷ u ∷ [])
