@@ -239,6 +239,8 @@ RULES = ruled([
     (121, 'iend.join', '(iend R i0) (iend W i0)', '(iend (join R W) i0)'),
     (122, 'eq.p0-val', '(iend R i0) (has D G P (path A B C)) (interval D R) (dsubst A 0 R E) (has D G B E)', '(eq D G (papp P R) B E)'),
     (123, 'eq.p1-val', '(iend R i1) (has D G P (path A E C)) (interval D R) (dsubst A 0 R B) (has D G C B)', '(eq D G (papp P R) C B)'),
+    (124, 'eq.app-cong', '(eq D G F H (pi A B)) (has D G X A) (subst B 0 X C) (has D G (app F X) C) (has D G (app H X) C)', '(eq D G (app F X) (app H X) C)'),
+    (125, 'eq.papp-cong', '(eq D G P Q (path A E F)) (interval D R) (dsubst A 0 R B) (has D G (papp P R) B) (has D G (papp Q R) B)', '(eq D G (papp P R) (papp Q R) B)'),
 ])
 
 # ---- Calls: the code, the terms that follow the context, the reference function that is entered. Of code 6 each type is a check.
@@ -251,6 +253,7 @@ CALLS = [
     Call(4, 'normalise', ['t', 'type'], 'normalize'),
     Call(5, 'equal', ['left', 'right', 'type'], 'equal'),
     Call(6, 'many', ['t'], 'check', counted=True),
+    Call(7, 'headwise', ['t', 'type'], 'head_normalize'),
 ]
 
 # ---- Refusals, in the order of their numbers. Of a run as a whole, each with the place that is told:

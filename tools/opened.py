@@ -14,7 +14,7 @@ WALK['Walk'] = ['Walk/' + part for part in PARTS] + ['Walk']
 
 # Modules of other crates that the model over words is defined in; of walk's the names that it takes over.
 MODEL = [('ast', module) for module in ['Words', 'Cells', 'Index', 'Nodes']]
-MODEL += [('producer', module) for module in ['Machine', 'Callees'] + PARTS[1:] + ['Calls']]
+MODEL += [('producer', module) for module in ['Machine', 'Callees'] + PARTS[1:] + ['Heads', 'Calls']]
 MODEL += [('link', module) for module in ['Asked', 'Table']]
 TAKEN = {'Limits': 'size_on node size_interval size_term size_terms size_call', 'Run': 'scope_of'}
 

@@ -67,7 +67,7 @@ class Left:
         number, row, result, deepest = answer
         if number:
             return '%d %d - - %d' % (i, number, deepest)
-        shown = {1: str, 2: self.quote, 4: self.quote}.get(code, lambda _: '-')
+        shown = {1: str, 2: self.quote, 4: self.quote, 7: self.quote}.get(code, lambda _: '-')
         return '%d 0 %d %s %d' % (i, row, shown(result), deepest)
 
     def listing(self, codes):

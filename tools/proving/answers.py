@@ -22,6 +22,9 @@ UNFOLD = {
     'along': 'at_ends as_path',
     'val': 'as_path',
     'equal': 'equal_normal',
+    'normalize': 'normal_by',
+    'app_cong': 'pi_of',
+    'papp_cong': 'path_of',
 }
 
 # Those of them that another crate defines: that value which the check computes.
@@ -51,4 +54,4 @@ RULED = {'tmake': 'law.node_rule _'}
 DIRECT = ('refused',)
 
 # The laws of a loop, by its function's name: of a turn, and of the end. The loop's invariant is a bound and an equation.
-LOOPS = {'turns': ('law.rounds_turn _ _ _ _ _ _ _ _ _', 'law.rounds_over _ _ _ _ _ _ _ _ _')}
+LOOPS = {'turns': ('law.rounds_turn _ _ _ _ _ _ _ _ _ _', 'law.rounds_over _ _ _ _ _ _ _ _ _ _')}

@@ -181,6 +181,7 @@ GROUPS = {
     'Walk.Typing': [[k.taken for k in TAKEN]],
     'Open': [['at_' + k.word for k in TAKEN]],
     'declared.cells.Shape.TheVariants': [[variant(k) for k in TAKEN]],
+    'declared.calls.Code.TheVariants': [[c.name.capitalize() for c in CALLS]],
 }
 
 

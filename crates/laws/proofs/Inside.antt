@@ -109,6 +109,7 @@ with_checks_linked N n c d G L = record {
   universe_absorbs = L.universe_absorbs;
   check_absorbs = L.check_absorbs;
   normalize_absorbs = L.normalize_absorbs;
+  head_normalize_absorbs = L.head_normalize_absorbs;
   equal_absorbs = L.equal_absorbs;
   transform_absorbs = L.transform_absorbs;
   ctx = L.ctx;
@@ -119,6 +120,8 @@ with_checks_linked N n c d G L = record {
   normalize = L.normalize;
   equal = L.equal;
   reduce = L.reduce;
+  head_normalize = L.head_normalize;
+  head_step = L.head_step;
   lookup = L.lookup;
   dshiftctx = L.dshiftctx;
   transform = λ {t' = t} {b = b} i op. record {

@@ -15,10 +15,16 @@ code codes i = get_or codes i 0
 unfoldable pub call_row : List ℕ → ℕ → Text
 call_row A i = elim (eqb (answer_word A i 0) 0) [ true ↦ decimal (answer_word A i 1) | false ↦ bytes "-" ]
 
--- The result of an accepted call: a level for code 1, a quote for codes 2 and 4; else -.
+-- The result of an accepted call: a level for code 1, a quote for codes 2, 4 and 7; else -.
 unfoldable pub result : ℕ → List ℕ → ℕ → Text
 result code C x =
-    elim (eqb code 1) [ true ↦ decimal x | false ↦ elim (eqb code 2) [ true ↦ quote C x | false ↦ elim (eqb code 4) [ true ↦ quote C x | false ↦ bytes "-" ] ] ]
+    elim (eqb code 1) [
+      | true ↦ decimal x
+      | false ↦ elim (eqb code 2) [
+        | true ↦ quote C x
+        | false ↦ elim (eqb code 4) [ true ↦ quote C x | false ↦ elim (eqb code 7) [ true ↦ quote C x | false ↦ bytes "-" ] ]
+      ]
+    ]
 
 unfoldable pub call_result : List ℕ → List ℕ → List ℕ → ℕ → Text
 call_result codes A C i = elim (eqb (answer_word A i 0) 0) [ true ↦ result (code codes i) C (answer_word A i 2) | false ↦ bytes "-" ]

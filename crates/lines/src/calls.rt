@@ -14,6 +14,8 @@ const INFER: u8 = 2;
 
 const NORMALISE: u8 = 4;
 
+const HEAD: u8 = 7;
+
 // The codes of a run's calls, and the words of its answers. Past the end of either, every one is 0.
 #[derive(Clone, Copy)]
 pub struct Calls<'a> {
@@ -92,7 +94,7 @@ fn accepted(table: &Table, writer: &mut Writer, code: u8, x: u32)
 {
     match code {
         UNIVERSE => writer.number(x),
-        INFER | NORMALISE => table.quote(writer, x),
+        INFER | NORMALISE | HEAD => table.quote(writer, x),
         _ => writer.put(b'-'),
     }
 }

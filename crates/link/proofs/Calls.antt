@@ -10,7 +10,7 @@ use Rattle.link.specs.Tables.{s_universe, s_var, s_nat, s_zero, s_pi, s_lam, s_a
 use Rattle.link.specs.Holds.{Before}
 use Rattle.link.specs.Match.{Matches, bind, nothing, counting, split, split_last, starting, Same, Pairs, Returns}
 use Rattle.link.specs.Linked.{Linked, Alike}
-use Rattle.link.specs.Asked.{build_interval, build_term, build_context, call_ctx, call_universe, call_infer, call_check, call_normalize, call_equal}
+use Rattle.link.specs.Asked.{build_interval, build_term, build_context, call_ctx, call_universe, call_infer, call_check, call_normalize, call_head_normalize, call_equal}
 
 module _ {o : Before} where
   pub building_interval : {xs : List Thing} (r : Interval) → Matches o xs (build_interval r) (count_all (of_interval r)) (λ n _. Cell n (interval r))
@@ -78,6 +78,12 @@ module _ {o : Before} {rd : M (Unit {0})} (c : Callees) (d : D.Callees) (L : Lin
   call_normalize_matches n g t y =
       starting (L.normalize_absorbs n g t y) L.ready λ _ _.
       split _ _ _ (split _ _ _ (bind (building_context g) λ _ _ _ _ h. bind (building_term t) λ _ _ _ e k. bind (building_term y) λ _ _ _ f l. L.normalize n (cell_lift (extends_trans e f) h) (cell_lift f k) l))
+
+  pub call_head_normalize_matches : {xs : List Thing} (n : ℕ) (g : Context) (t y : Term) → Matches o xs (call_head_normalize c n g t y) (d.head_normalize n g t y) (Returns term)
+  unfolding call_head_normalize
+  call_head_normalize_matches n g t y =
+      starting (L.head_normalize_absorbs n g t y) L.ready λ _ _.
+      split _ _ _ (split _ _ _ (bind (building_context g) λ _ _ _ _ h. bind (building_term t) λ _ _ _ e k. bind (building_term y) λ _ _ _ f l. L.head_normalize n (cell_lift (extends_trans e f) h) (cell_lift f k) l))
 
   pub call_equal_matches : {xs : List Thing} (n : ℕ) (g : Context) (a b y : Term) → Matches o xs (call_equal c n g a b y) (d.equal n g a b y) Same
   unfolding call_equal

@@ -19,8 +19,8 @@ use Rattle.link.specs.Holds.{Before, Holds}
 use Rattle.link.specs.Match.{Agree, both_done, both_refused, by_guard, Matches, Same, Pairs, Returns}
 use Rattle.link.specs.Linked.{Linked, Alike}
 use Rattle.link.specs.Link.{ready}
-use Rattle.link.specs.Asked.{start, call_ctx, call_universe, call_infer, call_check, call_normalize, call_equal}
-use Rattle.link.proofs.Calls.{call_ctx_matches, call_universe_matches, call_infer_matches, call_check_matches, call_normalize_matches, call_equal_matches}
+use Rattle.link.specs.Asked.{start, call_ctx, call_universe, call_infer, call_check, call_normalize, call_head_normalize, call_equal}
+use Rattle.link.proofs.Calls.{call_ctx_matches, call_universe_matches, call_infer_matches, call_check_matches, call_normalize_matches, call_head_normalize_matches, call_equal_matches}
 use Rattle.link.specs.Ends.{Ends, in_value, in_refusal}
 
 nothing_yet : {ws : List ℕ} → Remembers [] [] ws
@@ -73,6 +73,9 @@ module _ {o : Before} (n : ℕ) {c : Callees} (L : Linked o (ready n) c (guarded
 
   pub normalised : {w : Machine} {s : State} (d : ℕ) (g : Context) (t y : Term) → d + n ≤ 4200 → context_top g ≤ 32 → term_top t ≤ 32 → term_top y ≤ 32 → Fit s → Holds o w s → Ends o s.cells (Returns term) (call_normalize c d g t y w) ((walk_callees n).normalize d g t y s)
   normalised d g t y l i j k f h = ends (call_normalize_matches c (guarded n) L d g t y) ((bounds n (omega arith)).normalize d g t y (omega arith)) f h
+
+  pub head_normalised : {w : Machine} {s : State} (d : ℕ) (g : Context) (t y : Term) → d + n ≤ 4200 → context_top g ≤ 32 → term_top t ≤ 32 → term_top y ≤ 32 → Fit s → Holds o w s → Ends o s.cells (Returns term) (call_head_normalize c d g t y w) ((walk_callees n).head_normalize d g t y s)
+  head_normalised d g t y l i j k f h = ends (call_head_normalize_matches c (guarded n) L d g t y) ((bounds n (omega arith)).head_normalize d g t y (omega arith)) f h
 
   pub equalled : {w : Machine} {s : State} (d : ℕ) (g : Context) (a b y : Term) → d + n ≤ 4200 → context_top g ≤ 32 → term_top a ≤ 32 → term_top b ≤ 32 → term_top y ≤ 32 → Fit s → Holds o w s → Ends o s.cells Same (call_equal c d g a b y w) ((walk_callees n).equal d g a b y s)
   equalled d g a b y l i j k m f h = ends (call_equal_matches c (guarded n) L d g a b y) ((bounds n (omega arith)).equal d g a b y (omega arith)) f h

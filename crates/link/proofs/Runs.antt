@@ -11,7 +11,7 @@ use Rattle.producer.specs.Calls.{callees}
 use Rattle.walk.specs.Syntax.{Term, Context, Nil}
 use Rattle.walk.specs.State.{State, Thing, term, Outcome, with_deepest}
 use Rattle.walk.specs.Walk.{callees as walk_callees}
-use Rattle.walk.specs.Reader.{Code, c_context, c_universe, c_infer, c_check, c_normalise, c_equal, c_many, lists_types, Call}
+use Rattle.walk.specs.Reader.{Code, c_context, c_universe, c_infer, c_check, c_normalise, c_equal, c_many, c_headwise, lists_types, Call}
 use Rattle.walk.specs.Limits.{Sized, fits, scope_over, size_over, index_over, size_call}
 use Rattle.walk.specs.Run.{a_term, Answer, answered, scope_of, nth, walk, play_sized, play_counted, play, play_all, added_by}
 use Rattle.walk.specs.Run as R
@@ -29,7 +29,7 @@ use Rattle.link.specs.Linked.{Linked}
 use Rattle.link.specs.Link.{ready, link}
 use Rattle.link.specs.Asked.{Said, told, ask, turned, afresh, ask_sized, ask_counted, ask_call, with_marks, ask_from, ask_all, start}
 use Rattle.link.specs.Ends.{Ends, in_value, in_refusal}
-use Rattle.link.proofs.Ends.{starts, contexted, levelled, inferred, checked, normalised, equalled}
+use Rattle.link.proofs.Ends.{starts, contexted, levelled, inferred, checked, normalised, head_normalised, equalled}
 use Rattle.link.specs.Runs.{Results, no_word, level_word, term_word, Says, Leaves, Fits, none_say, says_on, numbered, Marks, EndsRun}
 use Rattle.link.proofs.Marks.{marks}
 
@@ -65,6 +65,7 @@ asked n L c_check d g ts l i k f h = leaves _ _ _ _ (λ c a w s h q. record { sa
 asked n L c_normalise d g ts l i k f h = leaves _ _ _ _ (λ c a w s h q. record { same_row = q.right; same_result = low_word h q.left }) (normalised n L d g (nth ts 0) (nth ts 1) l i (nth_low ts 0 k) (nth_low ts 1 k) f h)
 asked n L c_equal d g ts l i k f h = leaves _ _ _ _ (λ c a w s h q. record { same_row = q; same_result = no_word }) (equalled n L d g (nth ts 0) (nth ts 1) (nth ts 2) l i (nth_low ts 0 k) (nth_low ts 1 k) (nth_low ts 2 k) f h)
 asked n L c_many d g ts l i k f h = turned_leaves _ f h
+asked n L c_headwise d g ts l i k f h = leaves _ _ _ _ (λ c a w s h q. record { same_row = q.right; same_result = low_word h q.left }) (head_normalised n L d g (nth ts 0) (nth ts 1) l i (nth_low ts 0 k) (nth_low ts 1 k) f h)
 
 -- deepest starts from 0
 pub afresh_holds : {o : Before} {w : Machine} {s : State} → Holds o w s → Holds o (afresh w) (with_deepest 0 s)

@@ -5,7 +5,7 @@ use Rattle.producer.specs.Machine.{Machine, machine, new_state, fresh, Result, i
 use Rattle.producer.specs.Callees.{Callees}
 use Rattle.producer.specs.Calls.{callees}
 use Rattle.walk.specs.Syntax.{Interval, I0, I1, Dim, Neg, Meet, Join, Term, Universe, Var, Nat, Zero, Pi, Lam, App, Path, PathLam, PathApp, Sigma, Pair, Fst, Snd, Context, Nil, Cons}
-use Rattle.walk.specs.Reader.{Code, c_context, c_universe, c_infer, c_check, c_normalise, c_equal, c_many, lists_types, Call}
+use Rattle.walk.specs.Reader.{Code, c_context, c_universe, c_infer, c_check, c_normalise, c_equal, c_many, c_headwise, lists_types, Call}
 use Rattle.walk.specs.Refusal as Refusal
 use Rattle.walk.specs.Limits.{Sized, fits, scope_over, size_over, index_over, size_call}
 use Rattle.walk.specs.Run.{scope_of, nth}
@@ -62,6 +62,9 @@ call_check c d g t ty = c.ready >>= λ _. build_context g >>= λ h. build_term t
 unfoldable pub call_normalize : Callees → ℕ → Context → Term → Term → W (ℕ × ℕ)
 call_normalize c d g t ty = c.ready >>= λ _. build_context g >>= λ h. build_term t >>= λ x. build_term ty >>= λ y. c.normalize d h x y
 
+unfoldable pub call_head_normalize : Callees → ℕ → Context → Term → Term → W (ℕ × ℕ)
+call_head_normalize c d g t ty = c.ready >>= λ _. build_context g >>= λ h. build_term t >>= λ x. build_term ty >>= λ y. c.head_normalize d h x y
+
 unfoldable pub call_equal : Callees → ℕ → Context → Term → Term → Term → W ℕ
 call_equal c d g a b ty = c.ready >>= λ _. build_context g >>= λ h. build_term a >>= λ x. build_term b >>= λ y. build_term ty >>= λ z. c.equal d h x y z
 
@@ -92,6 +95,7 @@ ask c c_check d g ts w = told (λ row. row) (λ row w. 0) (call_check c d g (nth
 ask c c_normalise d g ts w = told (λ out. out.1) lowest_of (call_normalize c d g (nth ts 0) (nth ts 1) w)
 ask c c_equal d g ts w = told (λ row. row) (λ row w. 0) (call_equal c d g (nth ts 0) (nth ts 1) (nth ts 2) w)
 ask c c_many d g ts w = (turned Refusal.count, w)
+ask c c_headwise d g ts w = told (λ out. out.1) lowest_of (call_head_normalize c d g (nth ts 0) (nth ts 1) w)
 
 -- deepest starts from 0
 unfoldable pub afresh : Machine → Machine

@@ -170,7 +170,7 @@ module _ {o : Before} {rd : M (Unit {0})} (c : Callees) (d : D.Callees) (L : Lin
       (λ _ _ _ k p. at_pair _ _ p (λ _ _ _ _ _ _ _ _ _ b. snd_beta_matches n g k.cell p b) (giving _ _ λ _ _. no_step))
 
 -- a step that is found, or none
-stepped : {A E : Type 0} {o : Before} {xs : List Thing} {Q : E → A → List Thing → Type 0} {p : Option Reduction} {r : Option D.Step} {z : W E} {y : M A} (f : Reduction → W E) (h : D.Step → M A) → Steps p r xs → ((s s' : ℕ) (x : ℕ) (t t' : Term) → Cell s (term t) xs → Cell s' (term t') xs → Matches o xs (f (record { term = s; type = s'; row = x })) (h (record { term = t; type = t'; row = x })) Q) → Matches o xs z y Q → Matches o xs (P.on_step p f z) (from r get h or y) Q
+pub stepped : {A E : Type 0} {o : Before} {xs : List Thing} {Q : E → A → List Thing → Type 0} {p : Option Reduction} {r : Option D.Step} {z : W E} {y : M A} (f : Reduction → W E) (h : D.Step → M A) → Steps p r xs → ((s s' : ℕ) (x : ℕ) (t t' : Term) → Cell s (term t) xs → Cell s' (term t') xs → Matches o xs (f (record { term = s; type = s'; row = x })) (h (record { term = t; type = t'; row = x })) Q) → Matches o xs z y Q → Matches o xs (P.on_step p f z) (from r get h or y) Q
 unfolding P.on_step from◌get◌or◌
 stepped f h no_step k m = m
 stepped {o = o} {xs = xs} {Q = Q} f h (a_step {s = s} {t = t} a b e) k m = subst (λ (x : ℕ). Matches o xs (f (record { term = s.term; type = s.type; row = x })) (h t) Q) (sym e) (k s.term s.type t.row t.term t.type a b)
@@ -194,14 +194,23 @@ module _ {A E F : Type 0} {o : Before} {xs : List Thing} {Q : F → A → List T
   unfolding C.◌>>=◌ next stop refuse
   stopped n = record { holds = λ w s e h. both_refused e h }
 
+-- the walk's step, at the root alone or at heads too
+abbrev pub walk_step : D.Callees → Bool → ℕ → Context → Term → M (Option D.Step)
+walk_step d true n g = d.head_step n g
+walk_step d false n g = d.reduce n g
+
 module _ {o : Before} {rd : M (Unit {0})} (c : Callees) (d : D.Callees) (L : Linked o rd c d) where
-  rounds_matches : {xs : List Thing} {g t y i : ℕ} {g' : Context} {t' y' i' : Term} (left n x : ℕ) → Cell g (context g') xs → Cell t (term t') xs → Cell y (term y') xs → Cell i (term i') xs → Matches o xs (P.rounds left c n g t y i x) (B.rounds left d n g' t' y' i' x) (Returns term)
+  step_matches : {xs : List Thing} {g t : ℕ} {g' : Context} {t' : Term} (heads : Bool) (n : ℕ) → Cell g (context g') xs → Cell t (term t') xs → Matches o xs (P.step_by c heads n g t) (walk_step d heads n g' t') Steps
+  step_matches true n g t = L.head_step n g t
+  step_matches false n g t = L.reduce n g t
+
+  rounds_matches : {xs : List Thing} {g t y i : ℕ} {g' : Context} {t' y' i' : Term} (heads : Bool) (left n x : ℕ) → Cell g (context g') xs → Cell t (term t') xs → Cell y (term y') xs → Cell i (term i') xs → Matches o xs (P.rounds left c heads n g t y i x) (B.rounds left d (walk_step d heads n g') n g' t' y' i' x) (Returns term)
   unfolding P.rounds P.round C.on_maybe B.rounds
-  rounds_matches ℕ.zero n x g t y i =
-      bind (L.reduce n g i) λ _ _ _ e₁ s.
+  rounds_matches heads ℕ.zero n x g t y i =
+      bind (step_matches heads n g i) λ _ _ _ e₁ s.
       stepped _ _ s (λ _ _ _ _ _ _ _. stopping _) (giving _ _ λ _ f. record { left = cell_lift (extends_trans e₁ f) i; right = refl })
-  rounds_matches (ℕ.suc left) n x g t y i =
-      regrouped _ _ _ (bind (L.reduce n g i) λ _ _ _ e₁ s.
+  rounds_matches heads (ℕ.suc left) n x g t y i =
+      regrouped _ _ _ (bind (step_matches heads n g i) λ _ _ _ e₁ s.
       step_then _ _ _ _ s
       (λ _ _ z _ _ now type.
       quote_then _ _ _ type (cell_lift e₁ y)
@@ -209,17 +218,21 @@ module _ {o : Before} {rd : M (Unit {0})} (c : Callees) (d : D.Callees) (L : Lin
       let f₂ = extends_trans e₁ e₂ in
       regrouped _ _ _ (row_then (emitting_eq _ n cite_2 (cell_lift f₂ g) (cell_lift f₂ t) (cell_lift e₂ now) (cell_lift f₂ y)) λ v _ e₃.
       let f₃ = extends_trans f₂ e₃ in
-      given _ _ (rounds_matches left n v (cell_lift f₃ g) (cell_lift f₃ t) (cell_lift f₃ y) (cell_lift (extends_trans e₂ e₃) now)))))
+      given _ _ (rounds_matches heads left n v (cell_lift f₃ g) (cell_lift f₃ t) (cell_lift f₃ y) (cell_lift (extends_trans e₂ e₃) now)))))
       (stopped _ _))
       (given _ _ (giving _ _ λ _ f. record { left = cell_lift (extends_trans e₁ f) i; right = refl })))
 
-  pub normalize_matches : {xs : List Thing} {g t y : ℕ} {g' : Context} {t' y' : Term} (n : ℕ) → Cell g (context g') xs → Cell t (term t') xs → Cell y (term y') xs → Matches o xs (P.normalize_body c n g t y) (B.normalize_body d n g' t' y') (Returns term)
-  unfolding P.normalize_body B.normalize_body
-  normalize_matches n g t y =
+  pub normal_by_matches : {xs : List Thing} {g t y : ℕ} {g' : Context} {t' y' : Term} (heads : Bool) (n : ℕ) → Cell g (context g') xs → Cell t (term t') xs → Cell y (term y') xs → Matches o xs (P.normal_by c heads n g t y) (B.normal_by d (walk_step d heads n g') n g' t' y') (Returns term)
+  unfolding P.normal_by B.normal_by
+  normal_by_matches heads n g t y =
       row_then (L.check n g t y) λ _ _ e₁.
       row_then (emitting_eq _ n cite_1 (cell_lift e₁ g) (cell_lift e₁ t) (cell_lift e₁ t) (cell_lift e₁ y)) λ x _ e₂.
       let f = extends_trans e₁ e₂ in
-      rounds_matches 32 n x (cell_lift f g) (cell_lift f t) (cell_lift f y) (cell_lift f t)
+      rounds_matches heads 32 n x (cell_lift f g) (cell_lift f t) (cell_lift f y) (cell_lift f t)
+
+  pub normalize_matches : {xs : List Thing} {g t y : ℕ} {g' : Context} {t' y' : Term} (n : ℕ) → Cell g (context g') xs → Cell t (term t') xs → Cell y (term y') xs → Matches o xs (P.normalize_body c n g t y) (B.normalize_body d n g' t' y') (Returns term)
+  unfolding P.normalize_body B.normalize_body
+  normalize_matches n g t y = normal_by_matches false n g t y
 
   pub equal_matches : {xs : List Thing} {g a b y : ℕ} {g' : Context} {a' b' y' : Term} (n : ℕ) → Cell g (context g') xs → Cell a (term a') xs → Cell b (term b') xs → Cell y (term y') xs → Matches o xs (P.equal_body c n g a b y) (B.equal_body d n g' a' b' y') Same
   unfolding P.equal_body P.equal_normal B.equal_body

@@ -20,6 +20,7 @@ pub mod Transforms
 pub mod Contexts
 pub mod Typing
 pub mod Equality
+pub mod Heads
 pub mod Link
 -- calls, and a list of them
 pub mod Asked

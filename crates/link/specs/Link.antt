@@ -19,6 +19,7 @@ use Rattle.link.specs.Transforms.{under_matches, transform_matches}
 use Rattle.link.specs.Contexts.{dshiftctx_matches, ctx_matches, lookup_matches}
 use Rattle.link.specs.Typing.{expose_matches, universe_matches, check_matches, infer_matches}
 use Rattle.link.specs.Equality.{reduce_matches, normalize_matches, equal_matches}
+use Rattle.link.specs.Heads.{head_step_matches, head_normalize_matches}
 
 of_op : {xs : List Thing} {a : Op} {b : D.Op} → Ops xs a b → Present xs (D.of_op b)
 of_op o_shift = nothing
@@ -44,6 +45,7 @@ linked_none = record {
   universe_absorbs = λ n g t. absorbs_none _ _;
   check_absorbs = λ n g t y. absorbs_none _ _;
   normalize_absorbs = λ n g t y. absorbs_none _ _;
+  head_normalize_absorbs = λ n g t y. absorbs_none _ _;
   equal_absorbs = λ n g a b y. absorbs_none _ _;
   transform_absorbs = λ t op. absorbs_none _ _;
   ctx = λ n g. stopping _;
@@ -54,6 +56,8 @@ linked_none = record {
   normalize = λ n g t y. stopping _;
   equal = λ n g a b y. stopping _;
   reduce = λ n g t. stopping _;
+  head_normalize = λ n g t y. stopping _;
+  head_step = λ n g t. stopping _;
   lookup = λ g n. stopping _;
   dshiftctx = λ g. stopping _;
   transform = λ t op. stopping _;
@@ -75,6 +79,7 @@ linked_entered n c d L = record {
   universe_absorbs = λ m g t. absorbs_entered n _ _;
   check_absorbs = λ m g t y. absorbs_entered n _ _;
   normalize_absorbs = λ m g t y. absorbs_entered n _ _;
+  head_normalize_absorbs = λ m g t y. absorbs_entered n _ _;
   equal_absorbs = λ m g a b y. absorbs_entered n _ _;
   transform_absorbs = λ t op. absorbs_entered n _ _;
   ctx = λ m g. entering n (the_context g) (ctx_matches c d L m g);
@@ -85,6 +90,8 @@ linked_entered n c d L = record {
   normalize = λ m g t y. entering n (the_context g with the_term t with the_term y) (normalize_matches c d L m g t y);
   equal = λ m g a b y. entering n (the_context g with the_term a with the_term b with the_term y) (equal_matches c d L m g a b y);
   reduce = λ m g t. entering n (the_context g with the_term t) (reduce_matches c d L m g t);
+  head_normalize = λ m g t y. entering n (the_context g with the_term t with the_term y) (head_normalize_matches c d L m g t y);
+  head_step = λ m g t. entering n (the_context g with the_term t) (head_step_matches c d L m g t);
   lookup = λ g k. entering n (the_context g) (lookup_matches c d L g k);
   dshiftctx = λ g. entering n (the_context g) (dshiftctx_matches c d L g);
   transform = λ t op. entering n (the_term t with of_op op) (transform_matches c d L t op);

@@ -83,6 +83,7 @@ pub record Linked (o : Before) (rd : M (Unit {0})) (c : Callees) (d : D.Callees)
   pub universe_absorbs : (n : ℕ) (g : Context) (t : Term) → Absorbs rd (of_context g ++ of_term t) (d.universe n g t)
   pub check_absorbs : (n : ℕ) (g : Context) (t y : Term) → Absorbs rd (of_context g ++ of_term t ++ of_term y) (d.check n g t y)
   pub normalize_absorbs : (n : ℕ) (g : Context) (t y : Term) → Absorbs rd (of_context g ++ of_term t ++ of_term y) (d.normalize n g t y)
+  pub head_normalize_absorbs : (n : ℕ) (g : Context) (t y : Term) → Absorbs rd (of_context g ++ of_term t ++ of_term y) (d.head_normalize n g t y)
   pub equal_absorbs : (n : ℕ) (g : Context) (a b y : Term) → Absorbs rd (of_context g ++ of_term a ++ of_term b ++ of_term y) (d.equal n g a b y)
   pub transform_absorbs : (t : Term) (op : D.Op) → Absorbs rd (of_term t ++ D.of_op op) (d.transform t op)
   pub ctx : {xs : List Thing} {g : ℕ} {g' : Context} (n : ℕ) → Cell g (context g') xs → Matches o xs (c.ctx n g) (d.ctx n g') Same
@@ -93,6 +94,8 @@ pub record Linked (o : Before) (rd : M (Unit {0})) (c : Callees) (d : D.Callees)
   pub normalize : {xs : List Thing} {g t y : ℕ} {g' : Context} {t' y' : Term} (n : ℕ) → Cell g (context g') xs → Cell t (term t') xs → Cell y (term y') xs → Matches o xs (c.normalize n g t y) (d.normalize n g' t' y') (Returns term)
   pub equal : {xs : List Thing} {g a b y : ℕ} {g' : Context} {a' b' y' : Term} (n : ℕ) → Cell g (context g') xs → Cell a (term a') xs → Cell b (term b') xs → Cell y (term y') xs → Matches o xs (c.equal n g a b y) (d.equal n g' a' b' y') Same
   pub reduce : {xs : List Thing} {g t : ℕ} {g' : Context} {t' : Term} (n : ℕ) → Cell g (context g') xs → Cell t (term t') xs → Matches o xs (c.reduce n g t) (d.reduce n g' t') Steps
+  pub head_normalize : {xs : List Thing} {g t y : ℕ} {g' : Context} {t' y' : Term} (n : ℕ) → Cell g (context g') xs → Cell t (term t') xs → Cell y (term y') xs → Matches o xs (c.head_normalize n g t y) (d.head_normalize n g' t' y') (Returns term)
+  pub head_step : {xs : List Thing} {g t : ℕ} {g' : Context} {t' : Term} (n : ℕ) → Cell g (context g') xs → Cell t (term t') xs → Matches o xs (c.head_step n g t) (d.head_step n g' t') Steps
   pub lookup : {xs : List Thing} {g : ℕ} {g' : Context} → Cell g (context g') xs → (n : ℕ) → Matches o xs (c.lookup g n) (d.lookup g' n) (Returns term)
   pub dshiftctx : {xs : List Thing} {g : ℕ} {g' : Context} → Cell g (context g') xs → Matches o xs (c.dshiftctx g) (d.dshiftctx g') (Returns context)
   pub transform : {xs : List Thing} {t : ℕ} {t' : Term} {a : Op} {b : D.Op} → Cell t (term t') xs → Ops xs a b → Matches o xs (c.transform t a) (d.transform t' b) (Returns term)

@@ -135,7 +135,7 @@ module _ {o : Before} {rd : M (Unit {0})} (c : Callees) (d : D.Callees) (L : Lin
       emitting_has _ n cite_3 (cell_lift f₄ g) (cell_lift f₄ t) (cell_lift f₄ y))
       (λ _. stopping _)))
 
-  headed_matches : {xs : List Thing} {g t : ℕ} {g' : Context} {t' : Term} (n : ℕ) → Cell g (context g') xs → Cell t (term t') xs → (k : Kind) → Matches o xs (P.headed c (kind_byte k) n g t) (B.headed k d n g' t') (Returns term)
+  pub headed_matches : {xs : List Thing} {g t : ℕ} {g' : Context} {t' : Term} (n : ℕ) → Cell g (context g') xs → Cell t (term t') xs → (k : Kind) → Matches o xs (P.headed c (kind_byte k) n g t) (B.headed k d n g' t') (Returns term)
   unfolding P.headed B.headed
   headed_matches n g t k =
       pair_then _ _ (L.infer n g t) λ _ row _ _ e₁ ty.

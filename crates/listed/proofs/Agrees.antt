@@ -18,7 +18,7 @@ use Rattle.walk.specs.State.{Row}
 use Rattle.walk.specs.Reader.{Code}
 use Rattle.walk.specs.Run.{Result, Answer}
 use Rattle.std.proofs.Math.Dec.{eqb-suc-zero}
-use Rattle.listed.specs.Said.{spaced, all_texts, interval_text, quote_text, context_text, argument_text, judgment_text, PartIn, IntervalCell, QuoteCell, ContextCell, ArgumentWord, word_number, word_term, word_interval, word_context, ArgumentsIn, no_more, and_then, commas, refs_text, row_text, result_text, accepted_row, call_text, ResultIn, of_context, of_universe, of_infer, of_check, of_normalise, of_equal, Ended, accepted, refused, CallIn, RefsIn, no_refs, and_ref, RowIn, cell_0, cell_1, cell_dim, cell_neg, cell_meet, cell_join, cell_u, cell_v, cell_nat, cell_zero, cell_pi, cell_lam, cell_app, cell_path, cell_plam, cell_papp, cell_sigma, cell_pair, cell_fst, cell_snd, cell_nil, cell_cons}
+use Rattle.listed.specs.Said.{spaced, all_texts, interval_text, quote_text, context_text, argument_text, judgment_text, PartIn, IntervalCell, QuoteCell, ContextCell, ArgumentWord, word_number, word_term, word_interval, word_context, ArgumentsIn, no_more, and_then, commas, refs_text, row_text, result_text, accepted_row, call_text, ResultIn, of_context, of_universe, of_infer, of_check, of_normalise, of_equal, of_head, Ended, accepted, refused, CallIn, RefsIn, no_refs, and_ref, RowIn, cell_0, cell_1, cell_dim, cell_neg, cell_meet, cell_join, cell_u, cell_v, cell_nat, cell_zero, cell_pi, cell_lam, cell_app, cell_path, cell_plam, cell_papp, cell_sigma, cell_pair, cell_fst, cell_snd, cell_nil, cell_cons}
 use Rattle.quotes.specs.Quoted.{lower_yes, quote_node}
 
 -- Absent parts leave nothing before the end.
@@ -130,6 +130,7 @@ result_said (of_infer h) = quote_said h
 result_said of_check = refl
 result_said (of_normalise h) = quote_said h
 result_said of_equal = refl
+result_said (of_head h) = quote_said h
 
 ended_said : (codes A C : List ℕ) (i : ℕ) {c : Code} {n : ℕ} {r : Result} → code codes i ≡ code_number c → answer_word A i 0 ≡ n → Ended C (answer_word A i 2) c n r → call_result codes A C i ≡ result_text r
 unfolding call_result result_text

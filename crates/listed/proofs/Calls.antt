@@ -8,7 +8,7 @@ use Rattle.walk.specs.Syntax.{Term, Context, quote}
 use Rattle.walk.specs.Judgment.{Judgment}
 use Rattle.walk.specs.State.{Row, Thing, State, Outcome, done, refused}
 use Rattle.walk.specs.Walk.Reference.{Callees}
-use Rattle.walk.specs.Reader.{Call, Code, c_context, c_universe, c_infer, c_check, c_normalise, c_equal, c_many, lists_types}
+use Rattle.walk.specs.Reader.{Call, Code, c_context, c_universe, c_infer, c_check, c_normalise, c_equal, c_many, c_headwise, lists_types}
 use Rattle.walk.specs.Limits.{Sized, fits, scope_over, size_over, index_over, size_call}
 use Rattle.walk.specs.Run.{Result, no_result, a_level, a_term, Answer, answered, walk, play_sized, play_counted, play, play_all}
 use Rattle.walk.specs.Demand.{of_none, of_level, of_answer, judgment_of, Stated, AllStated, no_call, call_on}
@@ -16,7 +16,7 @@ use Rattle.link.specs.Table.{quote_at, CellsWords, Named, AnswerWords, AnswerAt,
 use Rattle.link.proofs.Back.{names}
 use Rattle.writer.specs.Text.{each}
 use Rattle.lines.specs.Calls.{code, call_line}
-use Rattle.listed.specs.Said.{QuoteCell, ResultIn, of_context, of_universe, of_infer, of_check, of_normalise, of_equal, Ended, accepted, CallIn, CallsIn, no_calls, and_call}
+use Rattle.listed.specs.Said.{QuoteCell, ResultIn, of_context, of_universe, of_infer, of_check, of_normalise, of_equal, of_head, Ended, accepted, CallIn, CallsIn, no_calls, and_call}
 use Rattle.listed.specs.Said as S
 use Rattle.listed.proofs.Agrees.{call_said}
 use Rattle.listed.specs.Listed.{call_lines}
@@ -41,6 +41,7 @@ bare_walk c c_check d g ts s = bare_answered _ _ _
 bare_walk c c_normalise d g ts s = bare_answered _ _ _
 bare_walk c c_equal d g ts s = bare_answered _ _ _
 bare_walk c c_many d g ts s = record { bare = λ z. refl }
+bare_walk c c_headwise d g ts s = bare_answered _ _ _
 
 bare_sized : (z : Sized) (call : Call) (s : State) → Bare (play_sized z call s).0
 unfolding play_sized
@@ -89,6 +90,7 @@ module _ (n : ℕ) (C : List ℕ) (x : ℕ) where
   result_in c_normalise d types ts r e w = term_in c_normalise (λ t q. of_normalise q) r _ e w
   result_in c_equal d types ts r e w = none_in c_equal of_equal r _ e
   result_in c_many d types ts r e w = absurd (no_some e)
+  result_in c_headwise d types ts r e w = term_in c_headwise (λ t q. of_head q) r _ e w
 
   ended : {rows : List Row} (call : Call) (a : Answer) → (a.number ≡ 0 → Stated rows call a) → Bare a → Named n C x a.result → Ended C x call.code a.number a.result
   ended call a stated b w = go a.number refl

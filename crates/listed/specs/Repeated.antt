@@ -3,7 +3,7 @@ use Rattle.std.specs.Prelude.{◌≡◌, refl, true, false, List, [], ◌∷◌,
 use Rattle.std.proofs.Common.{sym, ap, ◌∙◌, eq-eqb, ne_eqb}
 use Rattle.std.proofs.Math.Decide.{ℕ_discrete}
 use Rattle.std.proofs.Math.Option.{some, none}
-use Rattle.walk.specs.Reader.{Call, Code, CodeDiscrete, codes, c_context, c_universe, c_infer, c_check, c_normalise, c_equal, c_many}
+use Rattle.walk.specs.Reader.{Call, Code, CodeDiscrete, codes, c_context, c_universe, c_infer, c_check, c_normalise, c_equal, c_many, c_headwise}
 use Rattle.walk.specs.Run as R
 use Rattle.syntax.specs.Told.{code_number}
 use Rattle.lines.specs.Repeats.{Accepted, call, with_call, accepted, same, occurs, repeats_after, repeats}
@@ -22,6 +22,7 @@ back c_check = refl
 back c_normalise = refl
 back c_equal = refl
 back c_many = refl
+back c_headwise = refl
 
 code_inj : (c d : Code) → code_number c ≡ code_number d → c ≡ d
 code_inj c d e = let f : some c ≡ some d = sym (back c) ∙ ap (λ n. get_or codes n none) e ∙ back d in cc

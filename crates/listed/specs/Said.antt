@@ -5,7 +5,7 @@ use Rattle.walk.specs.Syntax.{Term, quote, Interval, I0, I1, Dim, Neg, Meet, Joi
 use Rattle.walk.specs.Judgment.{Judgment, kind, Argument, arguments}
 use Rattle.walk.specs.Judgment as J
 use Rattle.walk.specs.State.{Row}
-use Rattle.walk.specs.Reader.{Call, Code, c_context, c_universe, c_infer, c_check, c_normalise, c_equal, c_many}
+use Rattle.walk.specs.Reader.{Call, Code, c_context, c_universe, c_infer, c_check, c_normalise, c_equal, c_many, c_headwise}
 use Rattle.walk.specs.Run.{Result, no_result, a_level, a_term, Answer}
 use Rattle.rules.specs.Names.{bytes, rule_name, judgment_name}
 use Rattle.syntax.specs.Told.{code_number}
@@ -171,6 +171,7 @@ pub data ResultIn (C : List ℕ) (x : ℕ) : Code → Result → Type 0 where
   of_check : ResultIn C x c_check no_result
   of_normalise : {t : Term} → QuoteCell C x (quote t) → ResultIn C x c_normalise (a_term t)
   of_equal : ResultIn C x c_equal no_result
+  of_head : {t : Term} → QuoteCell C x (quote t) → ResultIn C x c_headwise (a_term t)
 
 -- An accepted call has its result in the word; a refused one has none.
 pub data Ended (C : List ℕ) (x : ℕ) (c : Code) : ℕ → Result → Type 0 where

@@ -20,7 +20,7 @@ use Rattle.walk.specs.Walk.Transforms.{under_body, transformed, finish, tvar_abo
 use Rattle.walk.specs.Walk.Contexts.{dshiftctx_body, new_ctx, ctx_body, lookup_body}
 use Rattle.walk.specs.Reader.{Kind, KindDiscrete, k_pi, k_path, k_sigma}
 use Rattle.walk.specs.Walk.Typing.{level, pi_parts, lam_parts, path_parts, plam_parts, sigma_parts, pair_parts, expose_body, universe_body, check_body, view, headed, as_parts, as_pi, as_path, as_sigma, found, find_binder, find_pair, find, new_infer, infer_body}
-use Rattle.walk.specs.Walk.Equality.{beta, at_end, pbeta, ends, along as walk_along, written, long_end, side, at_val, fst_beta, snd_beta, reduce_body, rounds, normalize_body, equal_body}
+use Rattle.walk.specs.Walk.Equality.{beta, at_end, pbeta, ends, along as walk_along, written, long_end, side, at_val, fst_beta, snd_beta, reduce_body, head_goes, congruent, app_cong, papp_cong, at_head, head_step_body, rounds, normal_by, normalize_body, head_normalize_body, equal_body}
 use Rattle.walk.specs.Refusal as Refusal
 use Rattle.walk.specs.Walk.{none_left, entered, callees_by, one_more, callees}
 use Rattle.order.specs.Numbers.{largest, interval_top, term_top, context_top, quote_top, quotes_top, judgment_top, key_top, thing_top, memory_top, AtMost, at_most_nil, at_most_cons, StateBounded}
@@ -746,25 +746,115 @@ module _ (n : ℕ) (c c' : Callees) (B : Bounds n c c') where
   reduce_within d g (Fst p) h = cases (pair_parts p) (λ of q. let z = pair_top p of q in fst_beta_within d g p of.1 (omega arith)) (λ _. giving _ λ c e. tt)
   reduce_within d g (Snd p) h = cases (pair_parts p) (λ of q. let z = pair_top p of q in snd_beta_within d g p of.2 (omega arith)) (λ _. giving _ λ c e. tt)
 
-  rounds_within : {b : ℕ} (left d : ℕ) (g : Context) (t ty now : Term) (x : ℕ) → (d + suc n ≤ 4200) × (context_top g ≤ 32 + b) × (term_top t ≤ 32 + b) × (term_top ty ≤ 32 + b) × (term_top now ≤ 32 + b) → Within b (rounds left c d g t ty now x) (rounds left c' d g t ty now x) SmallTerm
-  unfolding rounds
-  rounds_within ℕ.zero d g t ty now x h = bind (B.reduce d g now (omega arith)) λ x₁ c₁ e₁ h₁. cases x₁ (λ _ _. refusing (λ z. omega arith)) (λ _. giving _ λ c e. omega arith)
-  rounds_within (ℕ.suc left) d g t ty now x h =
-      bind (B.reduce d g now (omega arith)) λ x₁ c₁ e₁ h₁.
+  -- what a head goes to
+  abbrev Gone : Option (Term × ℕ) → ℕ → Type 0
+  Gone none b = Unit {0}
+  Gone (some x) b = term_top x.0 ≤ 32 + b
+
+  head_goes_within : {b : ℕ} (d : ℕ) (g : Context) (f y : Term) → (d + suc n ≤ 4200) × (context_top g ≤ 32 + b) × (term_top f ≤ 32 + b) → Within b (head_goes c d g f y) (head_goes c' d g f y) Gone
+  unfolding head_goes
+  head_goes_within d g f y h =
+      bind (B.head_step d g f (omega arith)) λ x₁ c₁ e₁ h₁.
       cases x₁
       (λ step q.
       let w : Stepped (some step) c₁ = along (λ (o : Option Step). Stepped o c₁) q h₁ in
       let w₀ : term_top step.term ≤ 32 + c₁ = w.0 in
-      branch (quote? (quote step.type) (quote ty))
-      (λ _. bind (B.check d g step.term ty (omega arith)) λ x₂ c₂ e₂ h₂.
-      let a = quotes_below g in let p = quote_below t in let u = quote_below step.term in let v = quote_below ty in
-      bind (emits _ _ _ (omega arith)) λ x₃ c₃ e₃ h₃. rounds_within left d g t ty step.term x₃ (omega arith))
+      branch (quote? (quote step.type) (quote y)) (λ _. giving _ λ c e. omega arith) (λ _. refusing (λ z. omega arith)))
+      (λ _. giving _ λ c e. tt)
+
+  congruent_within : {b : ℕ} (d : ℕ) (g : Context) (t out ty : Term) (refs : List ℕ) (rule : ℕ) → (d + suc n ≤ 4200) × (context_top g ≤ 32 + b) × (term_top t ≤ 32 + b) × (term_top out ≤ 32 + b) × (term_top ty ≤ 32 + b) → Within b (congruent c d g t out ty refs rule) (congruent c' d g t out ty refs rule) Stepped
+  unfolding congruent
+  congruent_within d g t out ty refs rule h =
+      bind (B.check d g t ty (omega arith)) λ x₁ c₁ e₁ h₁. bind (B.check d g out ty (omega arith)) λ x₂ c₂ e₂ h₂.
+      let a = quotes_below g in let q = quote_below t in let u = quote_below out in let v = quote_below ty in
+      bind (emits _ _ _ (omega arith)) λ x₃ c₃ e₃ h₃. giving _ λ c e. omega arith
+
+  app_cong_within : {b : ℕ} (d : ℕ) (g : Context) (f r : Term) → (d + suc n ≤ 4200) × (context_top g ≤ 32 + b) × (term_top f ≤ 32 + b) × (term_top r ≤ 32 + b) → Within b (app_cong c d g f r) (app_cong c' d g f r) Stepped
+  unfolding app_cong
+  app_cong_within d g f r h =
+      bind (as_pi_within d g f (omega arith)) λ x₁ c₁ e₁ h₁. bind (head_goes_within d g f (Pi x₁.0.0 x₁.0.1) (omega arith)) λ x₂ c₂ e₂ h₂.
+      cases x₂
+      (λ head q.
+      let w : Gone (some head) c₂ = along (λ (o : Option (Term × ℕ)). Gone o c₂) q h₂ in
+      let w₀ : term_top head.0 ≤ 32 + c₂ = w in
+      bind (B.check d g r x₁.0.0 (omega arith)) λ x₃ c₃ e₃ h₃. bind (B.transform x₁.0.1 (Subst 0 r) (omega arith)) λ x₄ c₄ e₄ h₄.
+      congruent_within d g (App f r) (App head.0 r) x₄.0 _ _ (omega arith))
+      (λ _. giving _ λ c e. tt)
+
+  papp_cong_within : {b : ℕ} (d : ℕ) (g : Context) (p : Term) (r : Interval) → (d + suc n ≤ 4200) × (context_top g ≤ 32 + b) × (term_top p ≤ 32 + b) × (interval_top r ≤ 32 + b) → Within b (papp_cong c d g p r) (papp_cong c' d g p r) Stepped
+  unfolding papp_cong
+  papp_cong_within d g p r h =
+      bind (as_path_within d g p (omega arith)) λ x₁ c₁ e₁ h₁. bind (head_goes_within d g p (Path x₁.0.0 x₁.0.1 x₁.0.2) (omega arith)) λ x₂ c₂ e₂ h₂.
+      cases x₂
+      (λ head q.
+      let w : Gone (some head) c₂ = along (λ (o : Option (Term × ℕ)). Gone o c₂) q h₂ in
+      let w₀ : term_top head.0 ≤ 32 + c₂ = w in
+      bind (B.interval d r (omega arith)) λ x₃ c₃ e₃ h₃. bind (B.transform x₁.0.0 (DSubst 0 r) (omega arith)) λ x₄ c₄ e₄ h₄.
+      congruent_within d g (PathApp p r) (PathApp head.0 r) x₄.0 _ _ (omega arith))
+      (λ _. giving _ λ c e. tt)
+
+  at_head_within : {b : ℕ} (d : ℕ) (g : Context) (t : Term) → (d + suc n ≤ 4200) × (context_top g ≤ 32 + b) × (term_top t ≤ 32 + b) → Within b (at_head c d g t) (at_head c' d g t) Stepped
+  unfolding at_head
+  at_head_within d g (Universe l) h = giving _ λ c e. tt
+  at_head_within d g (Var k) h = giving _ λ c e. tt
+  at_head_within d g Nat h = giving _ λ c e. tt
+  at_head_within d g Zero h = giving _ λ c e. tt
+  at_head_within d g (Pi s t) h = giving _ λ c e. tt
+  at_head_within d g (Lam s t) h = giving _ λ c e. tt
+  at_head_within d g (App f r) h = app_cong_within d g f r (omega arith)
+  at_head_within d g (Path s t r) h = giving _ λ c e. tt
+  at_head_within d g (PathLam s t) h = giving _ λ c e. tt
+  at_head_within d g (PathApp p r) h = papp_cong_within d g p r (omega arith)
+  at_head_within d g (Sigma s t) h = giving _ λ c e. tt
+  at_head_within d g (Pair y s t) h = giving _ λ c e. tt
+  at_head_within d g (Fst p) h = giving _ λ c e. tt
+  at_head_within d g (Snd p) h = giving _ λ c e. tt
+
+  head_step_within : {b : ℕ} (d : ℕ) (g : Context) (t : Term) → (d + suc n ≤ 4200) × (context_top g ≤ 32 + b) × (term_top t ≤ 32 + b) → Within b (head_step_body c d g t) (head_step_body c' d g t) Stepped
+  unfolding head_step_body
+  head_step_within d g t h =
+      bind (B.reduce d g t (omega arith)) λ x₁ c₁ e₁ h₁.
+      cases x₁
+      (λ step q.
+      let w : Stepped (some step) c₁ = along (λ (o : Option Step). Stepped o c₁) q h₁ in
+      let w₀ : term_top step.term ≤ 32 + c₁ = w.0 in
+      let w₁ : term_top step.type ≤ 32 + c₁ = w.1 in
+      giving _ λ c e. omega arith)
+      (λ _. at_head_within d g t (omega arith))
+
+  -- steps that keep the bounds
+  abbrev Steps : ℕ → (Term → M (Option Step)) → (Term → M (Option Step)) → Type 0
+  Steps b step step' = (c : ℕ) (t : Term) → b ≤ c → term_top t ≤ 32 + c → Within c (step t) (step' t) Stepped
+
+  rounds_within : {b : ℕ} (left d : ℕ) (g : Context) (step step' : Term → M (Option Step)) → Steps b step step' → (t ty now : Term) (x : ℕ) → (d + suc n ≤ 4200) × (context_top g ≤ 32 + b) × (term_top t ≤ 32 + b) × (term_top ty ≤ 32 + b) × (term_top now ≤ 32 + b) → Within b (rounds left c step d g t ty now x) (rounds left c' step' d g t ty now x) SmallTerm
+  unfolding rounds
+  rounds_within ℕ.zero d g step step' steps t ty now x h = bind (steps _ now (omega arith) (omega arith)) λ x₁ c₁ e₁ h₁. cases x₁ (λ _ _. refusing (λ z. omega arith)) (λ _. giving _ λ c e. omega arith)
+  rounds_within (ℕ.suc left) d g step step' steps t ty now x h =
+      bind (steps _ now (omega arith) (omega arith)) λ x₁ c₁ e₁ h₁.
+      cases x₁
+      (λ found q.
+      let w : Stepped (some found) c₁ = along (λ (o : Option Step). Stepped o c₁) q h₁ in
+      let w₀ : term_top found.term ≤ 32 + c₁ = w.0 in
+      branch (quote? (quote found.type) (quote ty))
+      (λ _. bind (B.check d g found.term ty (omega arith)) λ x₂ c₂ e₂ h₂.
+      let a = quotes_below g in let p = quote_below t in let u = quote_below found.term in let v = quote_below ty in
+      bind (emits _ _ _ (omega arith)) λ x₃ c₃ e₃ h₃. rounds_within left d g step step' (λ c t l. steps c t (omega arith)) t ty found.term x₃ (omega arith))
       (λ _. refusing (λ z. omega arith)))
       (λ _. giving _ λ c e. omega arith)
 
+  normal_by_within : {b : ℕ} (d : ℕ) (g : Context) (step step' : Term → M (Option Step)) → Steps b step step' → (t y : Term) → (d + suc n ≤ 4200) × (context_top g ≤ 32 + b) × (term_top t ≤ 32 + b) × (term_top y ≤ 32 + b) → Within b (normal_by c step d g t y) (normal_by c' step' d g t y) SmallTerm
+  unfolding normal_by
+  normal_by_within d g step step' steps t y h =
+      bind (B.check d g t y (omega arith)) λ x₁ c₁ e₁ h₁. let a = quotes_below g in let p = quote_below t in let v = quote_below y in
+      bind (emits _ _ _ (omega arith)) λ x₂ c₂ e₂ h₂. rounds_within 32 d g step step' (λ c t l. steps c t (omega arith)) t y t x₂ (omega arith)
+
   normalize_within : {b : ℕ} (d : ℕ) (g : Context) (t y : Term) → (d + suc n ≤ 4200) × (context_top g ≤ 32 + b) × (term_top t ≤ 32 + b) × (term_top y ≤ 32 + b) → Within b (normalize_body c d g t y) (normalize_body c' d g t y) SmallTerm
   unfolding normalize_body
-  normalize_within d g t y h = bind (B.check d g t y (omega arith)) λ x₁ c₁ e₁ h₁. let a = quotes_below g in let p = quote_below t in let v = quote_below y in bind (emits _ _ _ (omega arith)) λ x₂ c₂ e₂ h₂. rounds_within 32 d g t y t x₂ (omega arith)
+  normalize_within d g t y h = normal_by_within d g (c.reduce d g) (c'.reduce d g) (λ b t l k. B.reduce d g t (omega arith)) t y h
+
+  head_normalize_within : {b : ℕ} (d : ℕ) (g : Context) (t y : Term) → (d + suc n ≤ 4200) × (context_top g ≤ 32 + b) × (term_top t ≤ 32 + b) × (term_top y ≤ 32 + b) → Within b (head_normalize_body c d g t y) (head_normalize_body c' d g t y) SmallTerm
+  unfolding head_normalize_body
+  head_normalize_within d g t y h = normal_by_within d g (c.head_step d g) (c'.head_step d g) (λ b t l k. B.head_step d g t (omega arith)) t y h
 
   equal_within : {b : ℕ} (d : ℕ) (g : Context) (s t y : Term) → (d + suc n ≤ 4200) × (context_top g ≤ 32 + b) × (term_top s ≤ 32 + b) × (term_top t ≤ 32 + b) × (term_top y ≤ 32 + b) → Within b (equal_body c d g s t y) (equal_body c' d g s t y) Nothing
   unfolding equal_body
@@ -792,6 +882,8 @@ bounds_none top t = record {
   normalize = λ d g t y h. none_within;
   equal = λ d g s t y h. none_within;
   reduce = λ d g t h. none_within;
+  head_normalize = λ d g t y h. none_within;
+  head_step = λ d g t h. none_within;
   lookup = λ g i h. none_within;
   dshiftctx = λ g h. none_within;
   transform = λ t op h. none_within;
@@ -815,6 +907,8 @@ bounds_entered n c c' l B = record {
   normalize = λ d g t y h. entering n (context_cells g h.1 +++ term_cells t h.2 +++ term_cells y h.3) λ b e. normalize_within n c c' B d g t y (omega arith);
   equal = λ d g s t y h. entering n (context_cells g h.1 +++ term_cells s h.2 +++ term_cells t h.3 +++ term_cells y h.4) λ b e. equal_within n c c' B d g s t y (omega arith);
   reduce = λ d g t h. entering n (context_cells g h.1 +++ term_cells t h.2) λ b e. reduce_within n c c' B d g t (omega arith);
+  head_normalize = λ d g t y h. entering n (context_cells g h.1 +++ term_cells t h.2 +++ term_cells y h.3) λ b e. head_normalize_within n c c' B d g t y (omega arith);
+  head_step = λ d g t h. entering n (context_cells g h.1 +++ term_cells t h.2) λ b e. head_step_within n c c' B d g t (omega arith);
   lookup = λ g i h. entering n (context_cells g h.1) λ b e. lookup_within n c c' B g i (omega arith);
   dshiftctx = λ g h. entering n (context_cells g h) λ b e. dshiftctx_within n c c' B g (omega arith);
   transform = λ t op h. entering n (term_cells t h.1 +++ op_cells op h.2) λ b e. transform_within n c c' B t op (omega arith);

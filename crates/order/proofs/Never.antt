@@ -4,7 +4,7 @@ use Rattle.std.proofs.Common.{arith}
 use Rattle.walk.specs.Syntax.{Term, Context, Nil}
 use Rattle.walk.specs.State.{State, Outcome, M, with_deepest}
 use Rattle.walk.specs.Walk.{callees}
-use Rattle.walk.specs.Reader.{Code, c_context, c_universe, c_infer, c_check, c_normalise, c_equal, c_many, lists_types, Call}
+use Rattle.walk.specs.Reader.{Code, c_context, c_universe, c_infer, c_check, c_normalise, c_equal, c_many, c_headwise, lists_types, Call}
 use Rattle.walk.specs.Limits.{Sized, fits, scope_over, size_over, index_over, size_call}
 use Rattle.walk.specs.Run.{Result, answered, scope_of, nth, walk, play_sized, play_counted, play, play_all, start, run}
 use Rattle.order.specs.Numbers.{context_top, result_top, at_most_nil, at_most_cons, NumbersBounded}
@@ -32,6 +32,7 @@ walk_fair n c_check d g ts s l i h f = let x = nth_low ts 0 h in let y = nth_low
 walk_fair n c_normalise d g ts s l i h f = let x = nth_low ts 0 h in let y = nth_low ts 1 h in fair _ _ (λ _ _ k. k) (plainly ((bounds n (omega arith)).normalize d g (nth ts 0) (nth ts 1) (omega arith)) f)
 walk_fair n c_equal d g ts s l i h f = let x = nth_low ts 0 h in let y = nth_low ts 1 h in let z = nth_low ts 2 h in fair _ _ (λ _ _ _. omega arith) (plainly ((bounds n (omega arith)).equal d g (nth ts 0) (nth ts 1) (nth ts 2) (omega arith)) f)
 walk_fair n c_many d g ts s l i h f = record { result = omega arith; fit = f }
+walk_fair n c_headwise d g ts s l i h f = let x = nth_low ts 0 h in let y = nth_low ts 1 h in fair _ _ (λ _ _ k. k) (plainly ((bounds n (omega arith)).head_normalize d g (nth ts 0) (nth ts 1) (omega arith)) f)
 
 pub play_fair : (call : Call) (s : State) → Fit s → Fair (play call s)
 unfolding play play_counted play_sized with_deepest

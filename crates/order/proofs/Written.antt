@@ -5,7 +5,7 @@ use Rattle.std.proofs.Math.Option.{Option, none, some}
 use Rattle.walk.specs.Refusal as Refusal
 use Rattle.walk.specs.Syntax.{Interval, I0, I1, Dim, Neg, Meet, Join, Term, Universe, Var, Nat, Zero, Pi, Lam, App, Path, PathLam, PathApp, Sigma, Pair, Fst, Snd}
 use Rattle.walk.specs.State.{State}
-use Rattle.walk.specs.Reader.{Read, got, bad, Reader, read_on, ◌>>=◌, ok, byte, meant, one_of, k_u, k_v, k_nat, k_zero, k_pi, k_lam, k_app, k_path, k_plam, k_papp, k_sigma, k_pair, k_fst, k_snd, k_0, k_1, k_dim, k_neg, k_meet, k_join, kinds, ikinds, Code, c_context, c_universe, c_infer, c_check, c_normalise, c_equal, c_many, codes, terms_of, lists_types, read_interval, read_term, read_terms, Head, read_head, Call, read_call, Sent, read_drafts, read_sent, check_of, checks_of, calls_of, all_calls, read_calls, read_limit, read_run}
+use Rattle.walk.specs.Reader.{Read, got, bad, Reader, read_on, ◌>>=◌, ok, byte, meant, one_of, k_u, k_v, k_nat, k_zero, k_pi, k_lam, k_app, k_path, k_plam, k_papp, k_sigma, k_pair, k_fst, k_snd, k_0, k_1, k_dim, k_neg, k_meet, k_join, kinds, ikinds, Code, c_context, c_universe, c_infer, c_check, c_normalise, c_equal, c_many, c_headwise, codes, terms_of, lists_types, read_interval, read_term, read_terms, Head, read_head, Call, read_call, Sent, read_drafts, read_sent, check_of, checks_of, calls_of, all_calls, read_calls, read_limit, read_run}
 use Rattle.walk.specs.Run.{Answer, Ran, refusal, play_counted, play, refused_run, run_read, run}
 use Rattle.walk.specs.Written.{write_interval, write_term, write_terms, code_byte, write_call, write_checks, write_drafts, write_by, write_all, written_by, written_out}
 use Rattle.order.specs.Reading.{Full, Well, well_one, well_many, AllWell, none_well, well_on, calls_well, one_more}
@@ -151,6 +151,7 @@ code_back c_check = refl
 code_back c_normalise = refl
 code_back c_equal = refl
 code_back c_many = refl
+code_back c_headwise = refl
 
 call_back : (call : Call) (f : ℕ) (bs : List ℕ) → Full call → length (write_call call bs) ≤ length bs + f → Back (read_call f) call (write_call call bs) bs
 unfolding read_call read_head write_call

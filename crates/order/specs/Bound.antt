@@ -115,6 +115,8 @@ pub record Bounds (n : ℕ) (c c' : Callees) : Type 0 where
   pub normalize : {b : ℕ} (d : ℕ) (g : Context) (t y : Term) → (d + n ≤ 4200) × (context_top g ≤ 32 + b) × (term_top t ≤ 32 + b) × (term_top y ≤ 32 + b) → Within b (c.normalize d g t y) (c'.normalize d g t y) SmallTerm
   pub equal : {b : ℕ} (d : ℕ) (g : Context) (s t y : Term) → (d + n ≤ 4200) × (context_top g ≤ 32 + b) × (term_top s ≤ 32 + b) × (term_top t ≤ 32 + b) × (term_top y ≤ 32 + b) → Within b (c.equal d g s t y) (c'.equal d g s t y) Nothing
   pub reduce : {b : ℕ} (d : ℕ) (g : Context) (t : Term) → (d + n ≤ 4200) × (context_top g ≤ 32 + b) × (term_top t ≤ 32 + b) → Within b (c.reduce d g t) (c'.reduce d g t) Stepped
+  pub head_normalize : {b : ℕ} (d : ℕ) (g : Context) (t y : Term) → (d + n ≤ 4200) × (context_top g ≤ 32 + b) × (term_top t ≤ 32 + b) × (term_top y ≤ 32 + b) → Within b (c.head_normalize d g t y) (c'.head_normalize d g t y) SmallTerm
+  pub head_step : {b : ℕ} (d : ℕ) (g : Context) (t : Term) → (d + n ≤ 4200) × (context_top g ≤ 32 + b) × (term_top t ≤ 32 + b) → Within b (c.head_step d g t) (c'.head_step d g t) Stepped
   pub lookup : {b : ℕ} (g : Context) (i : ℕ) → (i ≤ 32 + b) × (context_top g ≤ 32 + b) → Within b (c.lookup g i) (c'.lookup g i) SmallTerm
   pub dshiftctx : {b : ℕ} (g : Context) → context_top g ≤ 32 + b → Within b (c.dshiftctx g) (c'.dshiftctx g) SmallContext
   pub transform : {b : ℕ} (t : Term) (op : Op) → (op_cutoff op + n ≤ 4200) × (term_top t ≤ 32 + b) × (op_top op ≤ 32 + b) → Within b (c.transform t op) (c'.transform t op) SmallTerm

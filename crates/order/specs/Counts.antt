@@ -5,7 +5,7 @@ use Rattle.walk.specs.Syntax.{Term, Context, Nil}
 use Rattle.walk.specs.State.{State, Outcome, done, refused, M, with_deepest}
 use Rattle.walk.specs.Walk.Reference.{Callees}
 use Rattle.walk.specs.Walk.{callees}
-use Rattle.walk.specs.Reader.{Code, c_context, c_universe, c_infer, c_check, c_normalise, c_equal, c_many, lists_types, Call}
+use Rattle.walk.specs.Reader.{Code, c_context, c_universe, c_infer, c_check, c_normalise, c_equal, c_many, c_headwise, lists_types, Call}
 use Rattle.walk.specs.Limits.{Sized, fits, scope_over, size_over, index_over, size_call}
 use Rattle.walk.specs.Run.{Result, Answer, answered, scope_of, nth, walk, play_sized, play_counted, play, play_all, start, played, run, Ran}
 use Rattle.order.specs.Numbers.{AtMost, at_most_nil, at_most_cons}
@@ -34,6 +34,7 @@ walk_counts c L c_check d g ts s = answered_counts (L.check d g (nth ts 0) (nth 
 walk_counts c L c_normalise d g ts s = answered_counts (L.normalize d g (nth ts 0) (nth ts 1)) _ _ s
 walk_counts c L c_equal d g ts s = answered_counts (L.equal d g (nth ts 0) (nth ts 1) (nth ts 2)) _ _ s
 walk_counts c L c_many d g ts s = record { grown = fresh s; deepest = omega arith }
+walk_counts c L c_headwise d g ts s = answered_counts (L.head_normalize d g (nth ts 0) (nth ts 1)) _ _ s
 
 pub play_counts : (call : Call) (s : State) → CallCounts s (play call s)
 unfolding play play_counted play_sized

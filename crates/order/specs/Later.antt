@@ -9,7 +9,7 @@ use Rattle.walk.specs.Syntax.{Interval, I0, I1, Dim, Neg, Meet, Join, Term, Univ
 use Rattle.walk.specs.Judgment.{Judgment}
 use Rattle.walk.specs.Refusal as Refusal
 use Rattle.walk.specs.State.{Row, Key, Thing, inference, Memory, State, Outcome, done, refused, M, go_on, looking, ◌>>=◌, pure, refuse, choose◌then◌else◌, from◌get◌or◌, row_of, with_row, push, emit, among, with_cell, count, count_all, with_memory, store, remember, with_conversions, ended, converted, converting, with_deepest, note, enter}
-use Rattle.walk.specs.Walk.Reference.{Op, Shift, Subst, DShift, DSubst, IOp, IShift, ISubst, End, Callees}
+use Rattle.walk.specs.Walk.Reference.{Op, Shift, Subst, DShift, DSubst, IOp, IShift, ISubst, Step, End, Callees}
 use Rattle.walk.specs.Walk.Numbers.{lt_by, le_by, comparison_body, max_body}
 use Rattle.walk.specs.Walk.Intervals.{ifinish, idim_above, idim, itransform_body, interval_body}
 use Rattle.walk.specs.Walk.Endpoints.{worked_out, right_part, two_parts, endpoint_body}
@@ -17,7 +17,7 @@ use Rattle.walk.specs.Walk.Transforms.{under_body, finish, tvar_above, tvar, tin
 use Rattle.walk.specs.Walk.Contexts.{dshiftctx_body, new_ctx, ctx_body, lookup_body}
 use Rattle.walk.specs.Reader.{Kind}
 use Rattle.walk.specs.Walk.Typing.{expose_body, universe_body, check_body, headed, as_parts, found, find_binder, find_pair, find, new_infer, infer_body}
-use Rattle.walk.specs.Walk.Equality.{beta, at_end, pbeta, ends, along, long_end, at_val, fst_beta, snd_beta, reduce_body, rounds, normalize_body, equal_body}
+use Rattle.walk.specs.Walk.Equality.{beta, at_end, pbeta, ends, along, long_end, at_val, fst_beta, snd_beta, reduce_body, head_goes, congruent, app_cong, papp_cong, at_head, head_step_body, rounds, normal_by, normalize_body, head_normalize_body, equal_body}
 use Rattle.walk.specs.Walk.{none_left, entered, callees_by, one_more, callees}
 use Rattle.walk.specs.Demand.{Extends, same, more}
 use Rattle.walk.specs.Sound.Logic.{extends_trans}
@@ -180,6 +180,8 @@ pub record AllLead (c : Callees) : Type 0 where
   pub normalize : (d : ℕ) (g : Context) (t ty : Term) → Leads (c.normalize d g t ty)
   pub equal : (d : ℕ) (g : Context) (a b ty : Term) → Leads (c.equal d g a b ty)
   pub reduce : (d : ℕ) (g : Context) (t : Term) → Leads (c.reduce d g t)
+  pub head_normalize : (d : ℕ) (g : Context) (t ty : Term) → Leads (c.head_normalize d g t ty)
+  pub head_step : (d : ℕ) (g : Context) (t : Term) → Leads (c.head_step d g t)
   pub lookup : (g : Context) (n : ℕ) → Leads (c.lookup g n)
   pub dshiftctx : (g : Context) → Leads (c.dshiftctx g)
   pub transform : (t : Term) (op : Op) → Leads (c.transform t op)
@@ -428,14 +430,59 @@ module _ (c : Callees) (L : AllLead c) where
   reduce_leads d g (Fst p) = search (combinators, as_parts_leads, L.check) depth 10
   reduce_leads d g (Snd p) = search (combinators, as_parts_leads, L.transform, at_end_leads) depth 10
 
-  rounds_leads : (n d : ℕ) (g : Context) (t ty now : Term) (row : ℕ) → Leads (rounds n c d g t ty now row)
+  head_goes_leads : (d : ℕ) (g : Context) (f ty : Term) → Leads (head_goes c d g f ty)
+  unfolding head_goes
+  head_goes_leads d g f ty = search (combinators, L.head_step)
+
+  congruent_leads : (d : ℕ) (g : Context) (t out ty : Term) (refs : List ℕ) (rule : ℕ) → Leads (congruent c d g t out ty refs rule)
+  unfolding congruent
+  congruent_leads d g t out ty refs rule = search (combinators, L.check)
+
+  app_cong_leads : (d : ℕ) (g : Context) (f a : Term) → Leads (app_cong c d g f a)
+  unfolding app_cong
+  app_cong_leads d g f a = search (combinators, as_parts_leads, head_goes_leads, L.check, L.transform, congruent_leads) depth 10
+
+  papp_cong_leads : (d : ℕ) (g : Context) (p : Term) (r : Interval) → Leads (papp_cong c d g p r)
+  unfolding papp_cong
+  papp_cong_leads d g p r = search (combinators, as_parts_leads, head_goes_leads, L.interval, L.transform, congruent_leads) depth 10
+
+  at_head_leads : (d : ℕ) (g : Context) (t : Term) → Leads (at_head c d g t)
+  unfolding at_head
+  at_head_leads d g (Universe l) = search combinators
+  at_head_leads d g (Var n) = search combinators
+  at_head_leads d g Nat = search combinators
+  at_head_leads d g Zero = search combinators
+  at_head_leads d g (Pi a b) = search combinators
+  at_head_leads d g (Lam a b) = search combinators
+  at_head_leads d g (App f a) = search app_cong_leads
+  at_head_leads d g (Path a b e) = search combinators
+  at_head_leads d g (PathLam a b) = search combinators
+  at_head_leads d g (PathApp p r) = search papp_cong_leads
+  at_head_leads d g (Sigma a b) = search combinators
+  at_head_leads d g (Pair ty a b) = search combinators
+  at_head_leads d g (Fst p) = search combinators
+  at_head_leads d g (Snd p) = search combinators
+
+  head_step_leads : (d : ℕ) (g : Context) (t : Term) → Leads (head_step_body c d g t)
+  unfolding head_step_body
+  head_step_leads d g t = search (combinators, L.reduce, at_head_leads)
+
+  rounds_leads : (n : ℕ) (step : Term → M (Option Step)) → ((t : Term) → Leads (step t)) → (d : ℕ) (g : Context) (t ty now : Term) (row : ℕ) → Leads (rounds n c step d g t ty now row)
   unfolding rounds
-  rounds_leads ℕ.zero d g t ty now row = search (combinators, L.reduce)
-  rounds_leads (ℕ.suc n) d g t ty now row = search (combinators, L.reduce, L.check, rounds_leads n) depth 10
+  rounds_leads ℕ.zero step steps d g t ty now row = search (combinators, steps)
+  rounds_leads (ℕ.suc n) step steps d g t ty now row = search (combinators, steps, L.check, rounds_leads n step steps) depth 10
+
+  normal_by_leads : (step : Term → M (Option Step)) → ((t : Term) → Leads (step t)) → (d : ℕ) (g : Context) (t ty : Term) → Leads (normal_by c step d g t ty)
+  unfolding normal_by
+  normal_by_leads step steps d g t ty = search (combinators, L.check, rounds_leads 32 step steps)
 
   normalize_leads : (d : ℕ) (g : Context) (t ty : Term) → Leads (normalize_body c d g t ty)
   unfolding normalize_body
-  normalize_leads d g t ty = search (combinators, L.check, rounds_leads)
+  normalize_leads d g t ty = normal_by_leads (c.reduce d g) (L.reduce d g) d g t ty
+
+  head_normalize_leads : (d : ℕ) (g : Context) (t ty : Term) → Leads (head_normalize_body c d g t ty)
+  unfolding head_normalize_body
+  head_normalize_leads d g t ty = normal_by_leads (c.head_step d g) (L.head_step d g) d g t ty
 
   equal_leads : (d : ℕ) (g : Context) (a b ty : Term) → Leads (equal_body c d g a b ty)
   unfolding equal_body
@@ -447,9 +494,9 @@ none_lead = search (refuses, gives)
 
 entered_lead : (n : ℕ) (c : Callees) → AllLead c → AllLead (entered n c)
 unfolding entered
-entered_lead n c L = search (L.more, enters, ctx_leads, infer_leads, universe_leads, check_leads, expose_leads, normalize_leads, equal_leads, reduce_leads, lookup_leads, dshiftctx_leads, transform_leads, itransform_leads, under_leads, interval_leads, endpoint_leads, comparison_leads, max_leads)
+entered_lead n c L = search (L.more, enters, ctx_leads, infer_leads, universe_leads, check_leads, expose_leads, normalize_leads, equal_leads, reduce_leads, head_normalize_leads, head_step_leads, lookup_leads, dshiftctx_leads, transform_leads, itransform_leads, under_leads, interval_leads, endpoint_leads, comparison_leads, max_leads)
 
--- the seventeen functions, with n entries left
+-- the nineteen functions, with n entries left
 pub leads : (n : ℕ) → AllLead (callees n)
 unfolding callees callees_by
 leads ℕ.zero = none_lead

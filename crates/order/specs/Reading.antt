@@ -2,7 +2,7 @@
 use Rattle.std.specs.Prelude.{ℕ, suc, ◌+◌, ◌*◌, ◌≤◌, ◌≡◌, refl, List, [], ◌∷◌, ◌++◌, Bool, true, false, ◌&&◌, leb, length}
 use Rattle.std.proofs.Common.{sym, subst, ap, ◌∙◌, arith, leb→le}
 use Rattle.walk.specs.Syntax.{Term}
-use Rattle.walk.specs.Reader.{Read, got, bad, Reader, read_on, ◌>>=◌, ok, Code, c_context, c_universe, c_infer, c_check, c_normalise, c_equal, c_many, terms_of, lists_types, byte, read_term, read_terms, read_head, Call, read_call, Sent, read_drafts, read_sent, checks_of, calls_of, all_calls, read_calls, read_limit, read_run}
+use Rattle.walk.specs.Reader.{Read, got, bad, Reader, read_on, ◌>>=◌, ok, Code, c_context, c_universe, c_infer, c_check, c_normalise, c_equal, c_many, c_headwise, terms_of, lists_types, byte, read_term, read_terms, read_head, Call, read_call, Sent, read_drafts, read_sent, checks_of, calls_of, all_calls, read_calls, read_limit, read_run}
 
 -- whatever m reads, Q holds of it
 pub record Reads {A : Type 0} (m : Reader A) (Q : A → Type 0) : Type 0 where
@@ -49,6 +49,7 @@ only_many c_check e = let z : ◌≡◌ {A = ℕ} 0 1 = cc in absurd (omega arit
 only_many c_normalise e = let z : ◌≡◌ {A = ℕ} 0 1 = cc in absurd (omega arith)
 only_many c_equal e = let z : ◌≡◌ {A = ℕ} 0 1 = cc in absurd (omega arith)
 only_many c_many e = refl
+only_many c_headwise e = let z : ◌≡◌ {A = ℕ} 0 1 = cc in absurd (omega arith)
 
 abbrev with_drafts : Call → List Term → Sent
 with_drafts call drafts = record { call = call; drafts = drafts }

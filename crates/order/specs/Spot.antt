@@ -16,7 +16,7 @@ use Rattle.walk.specs.Walk.Transforms.{under_body, tvar_above, tvar, tbinder, tp
 use Rattle.walk.specs.Walk.Contexts.{dshiftctx_body, new_ctx, ctx_body, lookup_body}
 use Rattle.walk.specs.Reader.{Kind}
 use Rattle.walk.specs.Walk.Typing.{expose_body, universe_body, check_body, lam_parts, plam_parts, sigma_parts, pair_parts, headed, as_parts, find_binder, find_pair, find, new_infer, infer_body}
-use Rattle.walk.specs.Walk.Equality.{beta, along, written, long_end, fst_beta, snd_beta, reduce_body, normalize_body, equal_body}
+use Rattle.walk.specs.Walk.Equality.{beta, along, written, long_end, fst_beta, snd_beta, reduce_body, head_step_body, normal_by, normalize_body, head_normalize_body, equal_body}
 use Rattle.walk.specs.Walk.{none_left, entered, one_more, callees_by, callees}
 use Rattle.walk.specs.Refusal as R
 use Rattle.walk.specs.Sound.Parts.{lam_is, sigma_is}
@@ -36,6 +36,8 @@ counted_first = record {
   normalize = λ d g t ty. count_all (of_context g ++ of_term t ++ of_term ty) >>= λ _. refusing.normalize d g t ty;
   equal = λ d g a b ty. count_all (of_context g ++ of_term a ++ of_term b ++ of_term ty) >>= λ _. refusing.equal d g a b ty;
   reduce = λ d g t. count_all (of_context g ++ of_term t) >>= λ _. refusing.reduce d g t;
+  head_normalize = λ d g t ty. count_all (of_context g ++ of_term t ++ of_term ty) >>= λ _. refusing.head_normalize d g t ty;
+  head_step = λ d g t. count_all (of_context g ++ of_term t) >>= λ _. refusing.head_step d g t;
   lookup = λ g k. count_all (of_context g) >>= λ _. refusing.lookup g k;
   dshiftctx = λ g. count_all (of_context g) >>= λ _. refusing.dshiftctx g;
   transform = λ t op. count_all (of_term t ++ of_op op) >>= λ _. refusing.transform t op;
@@ -216,8 +218,16 @@ unfolding check_body none_left counted_first
 check_alike d g t ty = stopped (stops_then _ _ (stops_here _ _ _ λ cells h. left_of (of_context g ++ of_term t) (of_term ty) h))
 
 normalize_alike : (d : ℕ) (g : Context) (t ty : Term) → Alike (of_context g ++ of_term t ++ of_term ty) (normalize_body refusing d g t ty) (normalize_body counted_first d g t ty)
-unfolding normalize_body none_left counted_first
+unfolding normalize_body normal_by none_left counted_first
 normalize_alike d g t ty = stopped (stops_then _ _ (stops_here _ _ _ λ cells h. h))
+
+head_normalize_alike : (d : ℕ) (g : Context) (t ty : Term) → Alike (of_context g ++ of_term t ++ of_term ty) (head_normalize_body refusing d g t ty) (head_normalize_body counted_first d g t ty)
+unfolding head_normalize_body normal_by none_left counted_first
+head_normalize_alike d g t ty = stopped (stops_then _ _ (stops_here _ _ _ λ cells h. h))
+
+head_step_alike : (d : ℕ) (g : Context) (t : Term) → Alike (of_context g ++ of_term t) (head_step_body refusing d g t) (head_step_body counted_first d g t)
+unfolding head_step_body none_left counted_first
+head_step_alike d g t = stopped (stops_then _ _ (stops_here _ _ _ λ cells h. h))
 
 equal_alike : (d : ℕ) (g : Context) (a b ty : Term) → Alike (of_context g ++ of_term a ++ of_term b ++ of_term ty) (equal_body refusing d g a b ty) (equal_body counted_first d g a b ty)
 unfolding equal_body none_left counted_first
@@ -418,6 +428,8 @@ late_one = λ i. record {
   normalize = λ d g t ty s. enters 0 _ (normalize_alike d g t ty) s i;
   equal = λ d g a b ty s. enters 0 _ (equal_alike d g a b ty) s i;
   reduce = λ d g t s. enters 0 _ (reduce_alike d g t) s i;
+  head_normalize = λ d g t ty s. enters 0 _ (head_normalize_alike d g t ty) s i;
+  head_step = λ d g t s. enters 0 _ (head_step_alike d g t) s i;
   lookup = λ g k s. enters 0 _ (lookup_alike g k) s i;
   dshiftctx = λ g s. enters 0 _ (dshiftctx_alike g) s i;
   transform = λ t op s. enters 0 _ (transform_alike t op) s i;

@@ -25,7 +25,8 @@ use Rattle.producer.specs.Endpoints.{endpoint_body}
 use Rattle.producer.specs.Transforms.{rule_of, transform_body, under_body}
 use Rattle.producer.specs.Contexts.{lookup_body, dshiftctx_body}
 use Rattle.producer.specs.Typing.{ctx_body, infer_body, universe_body, check_body, expose_body}
-use Rattle.producer.specs.Equality.{normalize_body, equal_body, reduce_body, round, rounds, on_step}
+use Rattle.producer.specs.Equality.{normalize_body, equal_body, reduce_body, step_by, round, rounds, on_step}
+use Rattle.producer.specs.Heads.{head_normalize_body, head_step_body}
 
 -- where `?` returns early, the refusal is the one that was met
 pub residual : {A E : Type 0} (r : Result A E) (e : E) → IsErrAnd r (λ x. x ≡ e) → r ≡ Err e
@@ -120,6 +121,24 @@ pub reduce_in : (k d g t : ℕ) (w : Machine) → (k ≡ 0 → ⊥) → (callees
 unfolding callees entered
 reduce_in zero d g t w h = absurd (h refl)
 reduce_in (suc k) d g t w h = rw sub-one
+
+pub head_normalize_none : (k d g t ty : ℕ) (w : Machine) → k ≡ 0 → (callees k).head_normalize d g t ty w ≡ stop Refusal.nesting w
+unfolding callees none_left
+head_normalize_none k d g t ty w h = rw h
+
+pub head_normalize_in : (k d g t ty : ℕ) (w : Machine) → (k ≡ 0 → ⊥) → (callees k).head_normalize d g t ty w ≡ enter (k - 1) (head_normalize_body (callees (k - 1)) d g t ty) w
+unfolding callees entered
+head_normalize_in zero d g t ty w h = absurd (h refl)
+head_normalize_in (suc k) d g t ty w h = rw sub-one
+
+pub head_step_none : (k d g t : ℕ) (w : Machine) → k ≡ 0 → (callees k).head_step d g t w ≡ stop Refusal.nesting w
+unfolding callees none_left
+head_step_none k d g t w h = rw h
+
+pub head_step_in : (k d g t : ℕ) (w : Machine) → (k ≡ 0 → ⊥) → (callees k).head_step d g t w ≡ enter (k - 1) (head_step_body (callees (k - 1)) d g t) w
+unfolding callees entered
+head_step_in zero d g t w h = absurd (h refl)
+head_step_in (suc k) d g t w h = rw sub-one
 
 pub lookup_none : (k g n : ℕ) (w : Machine) → k ≡ 0 → (callees k).lookup g n w ≡ stop Refusal.nesting w
 unfolding callees none_left
@@ -291,10 +310,10 @@ not_pair Other h f z = refl
 -- end of shapes
 
 -- one round, and none left
-pub rounds_turn : (c : Callees) (i d g t ty current row : ℕ) (w : Machine) → i < 32 → rounds (32 - i) c d g t ty current row w ≡ next (round c d g t ty current row w) (λ x. on_maybe x (λ term y. rounds (32 - (i + 1)) c d g t ty term y) (give (current, row)))
+pub rounds_turn : (c : Callees) (heads : Bool) (i d g t ty current row : ℕ) (w : Machine) → i < 32 → rounds (32 - i) c heads d g t ty current row w ≡ next (round c heads d g t ty current row w) (λ x. on_maybe x (λ term y. rounds (32 - (i + 1)) c heads d g t ty term y) (give (current, row)))
 unfolding rounds ◌>>=◌
-rounds_turn c i d g t ty current row w h = let e : 32 - i ≡ suc (32 - (i + 1)) = omega arith in rw e
+rounds_turn c heads i d g t ty current row w h = let e : 32 - i ≡ suc (32 - (i + 1)) = omega arith in rw e
 
-pub rounds_over : (c : Callees) (i d g t ty current row : ℕ) (w : Machine) → 32 ≤ i → rounds (32 - i) c d g t ty current row w ≡ next (c.reduce d g current w) (λ x. on_step x (λ step. stop Refusal.reductions) (give (current, row)))
+pub rounds_over : (c : Callees) (heads : Bool) (i d g t ty current row : ℕ) (w : Machine) → 32 ≤ i → rounds (32 - i) c heads d g t ty current row w ≡ next (step_by c heads d g current w) (λ x. on_step x (λ step. stop Refusal.reductions) (give (current, row)))
 unfolding rounds ◌>>=◌
-rounds_over c i d g t ty current row w h = let e : 32 - i ≡ 0 = omega arith in rw e
+rounds_over c heads i d g t ty current row w h = let e : 32 - i ≡ 0 = omega arith in rw e

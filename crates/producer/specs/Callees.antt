@@ -1,4 +1,4 @@
--- The seventeen reference functions over words, and what is done before an argument is made for one. Assumes nothing.
+-- The nineteen reference functions over words, and what is done before an argument is made for one. Assumes nothing.
 use Rattle.std.specs.Prelude.{ℕ, Bool}
 use Rattle.std.proofs.Math.Option.{Option}
 use Rattle.producer.specs.declared.rows.Refs.{Refs}
@@ -17,6 +17,8 @@ pub record Callees : Type 0 where
   pub normalize : (d g t ty : ℕ) → W (ℕ × ℕ)
   pub equal : (d g a b ty : ℕ) → W ℕ
   pub reduce : (d g t : ℕ) → W (Option Reduction)
+  pub head_normalize : (d g t ty : ℕ) → W (ℕ × ℕ)
+  pub head_step : (d g t : ℕ) → W (Option Reduction)
   pub lookup : (g n : ℕ) → W (ℕ × ℕ)
   pub dshiftctx : ℕ → W (ℕ × ℕ)
   pub transform : ℕ → Op → W (ℕ × ℕ)

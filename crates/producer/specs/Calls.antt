@@ -10,6 +10,7 @@ use Rattle.producer.specs.Transforms.{transform_body, under_body}
 use Rattle.producer.specs.Contexts.{lookup_body, dshiftctx_body}
 use Rattle.producer.specs.Typing.{ctx_body, infer_body, universe_body, check_body, expose_body}
 use Rattle.producer.specs.Equality.{normalize_body, equal_body, reduce_body}
+use Rattle.producer.specs.Heads.{head_normalize_body, head_step_body}
 
 -- with nothing left each is refused
 unfoldable pub none_left : Callees
@@ -23,6 +24,8 @@ none_left = record {
   normalize = λ d g t ty. stop Refusal.nesting;
   equal = λ d g a b ty. stop Refusal.nesting;
   reduce = λ d g t. stop Refusal.nesting;
+  head_normalize = λ d g t ty. stop Refusal.nesting;
+  head_step = λ d g t. stop Refusal.nesting;
   lookup = λ g k. stop Refusal.nesting;
   dshiftctx = λ g. stop Refusal.nesting;
   transform = λ t op. stop Refusal.nesting;
@@ -46,6 +49,8 @@ entered n c = record {
   normalize = λ d g t ty. enter n (normalize_body c d g t ty);
   equal = λ d g a b ty. enter n (equal_body c d g a b ty);
   reduce = λ d g t. enter n (reduce_body c d g t);
+  head_normalize = λ d g t ty. enter n (head_normalize_body c d g t ty);
+  head_step = λ d g t. enter n (head_step_body c d g t);
   lookup = λ g k. enter n (lookup_body c g k);
   dshiftctx = λ g. enter n (dshiftctx_body c g);
   transform = λ t op. enter n (transform_body c t op);

@@ -1,5 +1,5 @@
 -- Equality: root reductions, normal forms, equal terms. Assumes nothing.
-use Rattle.std.specs.Prelude.{ℕ, zero, suc, eqb}
+use Rattle.std.specs.Prelude.{ℕ, zero, suc, Bool, true, false, eqb}
 use Rattle.std.proofs.Math.Option.{Option, none, some}
 use Rattle.producer.specs.declared.endpoints.End.{End}
 use Rattle.producer.specs.declared.transforms.Op.TheVariants.{Subst, DSubst}
@@ -107,10 +107,15 @@ unfoldable pub on_step : {A : Type 0} → Option Reduction → (Reduction → W 
 on_step (some s) f z = f s
 on_step none f z = z
 
--- one root reduction, at the type wanted: the term reached and the row of its equation
-unfoldable pub round : Callees → (d g t ty current evidence : ℕ) → W (Option (ℕ × ℕ))
-round c d g t ty current evidence = do
-  next ← c.reduce d g current
+-- the step of a walk: at the root alone, or at heads too
+abbrev pub step_by : Callees → Bool → (d g t : ℕ) → W (Option Reduction)
+step_by c true d g t = c.head_step d g t
+step_by c false d g t = c.reduce d g t
+
+-- one step, at the type wanted: the term reached and the row of its equation
+unfoldable pub round : Callees → Bool → (d g t ty current evidence : ℕ) → W (Option (ℕ × ℕ))
+round c heads d g t ty current evidence = do
+  next ← step_by c heads d g current
   on_step next
       (λ step.
       same_quote step.type ty
@@ -121,20 +126,23 @@ round c d g t ty current evidence = do
       (stop Refusal.step_type))
       (give none)
 
--- at most `left` reductions: one more is refused
-unfoldable pub rounds : ℕ → Callees → (d g t ty current evidence : ℕ) → W (ℕ × ℕ)
-rounds zero c d g t ty current evidence = do
-  next ← c.reduce d g current
+-- at most `left` steps: one more is refused
+unfoldable pub rounds : ℕ → Callees → Bool → (d g t ty current evidence : ℕ) → W (ℕ × ℕ)
+rounds zero c heads d g t ty current evidence = do
+  next ← step_by c heads d g current
   on_step next (λ step. stop Refusal.reductions) (give (current, evidence))
-rounds (suc left) c d g t ty current evidence = do
-  next ← round c d g t ty current evidence
-  on_maybe next (λ term row. rounds left c d g t ty term row) (give (current, evidence))
+rounds (suc left) c heads d g t ty current evidence = do
+  next ← round c heads d g t ty current evidence
+  on_maybe next (λ term row. rounds left c heads d g t ty term row) (give (current, evidence))
 
-unfoldable pub normalize_body : Callees → (d g t ty : ℕ) → W (ℕ × ℕ)
-normalize_body c d g t ty = do
+unfoldable pub normal_by : Callees → Bool → (d g t ty : ℕ) → W (ℕ × ℕ)
+normal_by c heads d g t ty = do
   typed ← c.check d g t ty
   evidence ← emit_eq R.eq_refl (refs_1 typed) d g t t ty
-  rounds 32 c d g t ty t evidence
+  rounds 32 c heads d g t ty t evidence
+
+unfoldable pub normalize_body : Callees → (d g t ty : ℕ) → W (ℕ × ℕ)
+normalize_body c d g t ty = normal_by c false d g t ty
 
 -- two terms with different quotes
 unfoldable pub equal_normal : Callees → (d g a b ty : ℕ) → W ℕ

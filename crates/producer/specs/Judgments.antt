@@ -136,6 +136,8 @@ rule_number rule.IendMeet = R.iend_meet
 rule_number rule.IendJoin = R.iend_join
 rule_number rule.EqP0Val = R.eq_p0_val
 rule_number rule.EqP1Val = R.eq_p1_val
+rule_number rule.EqAppCong = R.eq_app_cong
+rule_number rule.EqPappCong = R.eq_papp_cong
 rule_number (rule.Other n) = n
 
 unfoldable pub words_of : Judgment → Words

@@ -9,4 +9,5 @@ pub mod Transforms
 pub mod Contexts
 pub mod Typing
 pub mod Equality
+pub mod Heads
 pub mod Calls

@@ -130,6 +130,8 @@ pub enum Rule {
     IendJoin,
     EqP0Val,
     EqP1Val,
+    EqAppCong,
+    EqPappCong,
     // Any other number.
     Other(u32),
 }
@@ -265,6 +267,8 @@ impl Rule {
             Rule::IendJoin => 121,
             Rule::EqP0Val => 122,
             Rule::EqP1Val => 123,
+            Rule::EqAppCong => 124,
+            Rule::EqPappCong => 125,
             Rule::Other(number) => number,
         }
     }

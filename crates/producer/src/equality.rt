@@ -1,5 +1,5 @@
 // Equality: root reductions, normal forms, equal terms. With typing.rt these form one cycle of calls.
-ghost use Rattle.std.specs.Prelude.{◌≡◌};
+ghost use Rattle.std.specs.Prelude.{◌≡◌, false};
 ghost use Rattle.producer.specs.Answers.{end, end_step, end_maybe};
 ghost use Rattle.producer.specs.Judgments.{rule_number};
 ghost use Rattle.producer.specs.Machine.{machine};
@@ -316,7 +316,7 @@ impl State {
         ty: u32,
         evidence: u32,
     ) -> Answer<(u32, u32)>
-        ensures { end result rows.new cells.new ≡ rounds 32 (callees left) d g t ty t evidence (machine rows.old cells.old self) }
+        ensures { end result rows.new cells.new ≡ rounds 32 (callees left) false d g t ty t evidence (machine rows.old cells.old self) }
     {
         let mut s = self;
         let mut current = t;
@@ -351,7 +351,7 @@ impl State {
         current: u32,
         evidence: u32,
     ) -> Answer<Option<(u32, u32)>>
-        ensures { end_maybe result rows.new cells.new ≡ round (callees left) d g t ty current evidence (machine rows.old cells.old self) }
+        ensures { end_maybe result rows.new cells.new ≡ round (callees left) false d g t ty current evidence (machine rows.old cells.old self) }
     {
         let (s1, reduced) = self.reduce(left, rows, cells, d, g, current)?;
         let Some((term, at, step)) = reduced else {

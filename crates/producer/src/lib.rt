@@ -1,4 +1,4 @@
-// The producer of producer.rs over lent slices of 32-bit words: rows, cells, and the seventeen reference functions.
+// The producer of producer.rs over lent slices of 32-bit words: rows, cells, and the nineteen reference functions.
 #![tactic(auto)]
 
 pub mod codes; // the judgments and the rules, and their numbers
@@ -13,6 +13,7 @@ pub mod transforms; // transform, under
 pub mod contexts; // dshiftctx, lookup
 pub mod typing; // ctx, infer, universe, check, expose
 pub mod equality; // normalize, equal, reduce
+pub mod heads; // head_normalize, head_step
 
 // The counts, which travel by value through methods that give them back. They stand at the crate's root, so that paths to them are short
 // (docs/DECISIONS.md, "Short names").

@@ -41,7 +41,7 @@ pub const NO_NODE: Node = Node {
 };
 
 // The rules by their number.
-pub static RULES: [Rule; 124] = [
+pub static RULES: [Rule; 126] = [
     Rule {
         name: b"ctx.nil",
         kind: 0,
@@ -536,6 +536,14 @@ pub static RULES: [Rule; 124] = [
     },
     Rule {
         name: b"eq.p1-val",
+        kind: 14,
+    },
+    Rule {
+        name: b"eq.app-cong",
+        kind: 14,
+    },
+    Rule {
+        name: b"eq.papp-cong",
         kind: 14,
     },
 ];

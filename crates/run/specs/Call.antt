@@ -4,7 +4,7 @@ use Rattle.ast.specs.Words.{up}
 use Rattle.producer.specs.Machine.{W, ◌>>=◌, give, when◌then◌else◌, lowest, intern}
 use Rattle.producer.specs.Callees.{prepared}
 use Rattle.producer.specs.Calls.{callees}
-use Rattle.walk.specs.Reader.{c_context, c_universe, c_infer, c_check, c_normalise, c_many}
+use Rattle.walk.specs.Reader.{c_context, c_universe, c_infer, c_check, c_normalise, c_equal, c_many}
 use Rattle.syntax.specs.declared.scan.CallHead.{CallHead}
 use Rattle.syntax.specs.Told.{code_number, code_of}
 use Rattle.run.specs.Build.{built, scoped}
@@ -30,14 +30,16 @@ with_sides left bytes at d g a b = do
   (ty, _) ← built 33 bytes at
   row_alone ((callees left).equal d g a b ty)
 
--- check, normalise or equal: the first term is made
+-- check, normalise, equal, or normalise at heads too: the first term is made
 unfoldable pub with_term : ℕ → List ℕ → (at code d g t : ℕ) → W (ℕ × ℕ)
 with_term left bytes at code d g t = do
   (u, next) ← built 33 bytes at
   when eqb code (code_number c_check) then row_alone ((callees left).check d g t u)
       else
       (when eqb code (code_number c_normalise) then row_quoted ((callees left).normalize d g t u)
-      else with_sides left bytes next d g t u)
+      else
+      (when eqb code (code_number c_equal) then with_sides left bytes next d g t u
+      else row_quoted ((callees left).head_normalize d g t u)))
 
 -- the function of a code, whose terms start at an offset; of a call with many types, the one that is checked stands at another
 unfoldable pub by_code : ℕ → List ℕ → (at ty code d g : ℕ) → W (ℕ × ℕ)

@@ -156,7 +156,12 @@ pub fn enter_two(
         let (s, (normal, row)) = s1.normalize(left, rows, cells, d, g, t, u)?;
         return Ok((s, (row, quote(cells, normal))));
     }
-    enter_equal(s1, left, bytes, next, rows, cells, d, g, t, u)
+    if code == Code::Equal as u8 {
+        return enter_equal(s1, left, bytes, next, rows, cells, d, g, t, u);
+    }
+    // Code 7: heads are reduced too.
+    let (s, (normal, row)) = s1.head_normalize(left, rows, cells, d, g, t, u)?;
+    Ok((s, (row, quote(cells, normal))))
 }
 
 // The last term is the type at which two are equal.

@@ -146,6 +146,8 @@ holds =
     (λ e. R.by_iend_join_2) and
     (λ e. R.by_eq_p0_val) and
     (λ e. R.by_eq_p1_val) and
+    (λ e. R.by_eq_app_cong) and
+    (λ e. R.by_eq_papp_cong) and
     -- end of each line holds
     all
 
@@ -295,6 +297,8 @@ complete R.by_iend_join_1 = find lines 125 tt refl refl
 complete R.by_iend_join_2 = find lines 126 tt refl refl
 complete R.by_eq_p0_val = find lines 127 tt refl refl
 complete R.by_eq_p1_val = find lines 128 tt refl refl
+complete R.by_eq_app_cong = find lines 129 tt refl refl
+complete R.by_eq_papp_cong = find lines 130 tt refl refl
 
 -- end of each rule has its line
 

@@ -155,5 +155,7 @@ lines =
     R.iend_join from "(iend R i0) (iend W i0)" to "(iend (join R W) i0)" ∷
     R.eq_p0_val from "(iend R i0) (has D G P (path A B C)) (interval D R) (dsubst A 0 R E) (has D G B E)" to "(eq D G (papp P R) B E)" ∷
     R.eq_p1_val from "(iend R i1) (has D G P (path A E C)) (interval D R) (dsubst A 0 R B) (has D G C B)" to "(eq D G (papp P R) C B)" ∷
+    R.eq_app_cong from "(eq D G F H (pi A B)) (has D G X A) (subst B 0 X C) (has D G (app F X) C) (has D G (app H X) C)" to "(eq D G (app F X) (app H X) C)" ∷
+    R.eq_papp_cong from "(eq D G P Q (path A E F)) (interval D R) (dsubst A 0 R B) (has D G (papp P R) B) (has D G (papp Q R) B)" to "(eq D G (papp P R) (papp Q R) B)" ∷
     -- end of rules
     []

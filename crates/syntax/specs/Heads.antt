@@ -7,7 +7,7 @@ use Rattle.std.proofs.Math.Numerals.{add-one}
 use Rattle.std.proofs.Math.Decide.{dec_lt}
 use Rattle.std.proofs.Math.ListN.{drop_of_length-le, get_or-eq_default}
 use Rattle.std.proofs.Math.Seq.{drop-cons}
-use Rattle.walk.specs.Reader.{Read, got, bad, read_on, ◌>>=◌, ok, byte, meant, one_of, Code, c_context, c_universe, c_infer, c_check, c_normalise, c_equal, c_many, codes, terms_of, lists_types, Head, read_head}
+use Rattle.walk.specs.Reader.{Read, got, bad, read_on, ◌>>=◌, ok, byte, meant, one_of, Code, c_context, c_universe, c_infer, c_check, c_normalise, c_equal, c_many, c_headwise, codes, terms_of, lists_types, Head, read_head}
 use Rattle.syntax.specs.Told.{code_number, highest_code, fault_at, code_told, code_of, head_in, head_of, terms_in}
 use Rattle.syntax.specs.Ends.{Stops, ends, goes_head}
 use Rattle.syntax.specs.declared.scan.Fault.{Fault}
@@ -27,7 +27,8 @@ is_code (suc (suc (suc zero))) h = record { code = _; here = refl; number = refl
 is_code (suc (suc (suc (suc zero)))) h = record { code = _; here = refl; number = refl }
 is_code (suc (suc (suc (suc (suc zero))))) h = record { code = _; here = refl; number = refl }
 is_code (suc (suc (suc (suc (suc (suc zero)))))) h = record { code = _; here = refl; number = refl }
-is_code (suc (suc (suc (suc (suc (suc (suc n))))))) h = absurd (let z : ⊥ = omega arith in z)
+is_code (suc (suc (suc (suc (suc (suc (suc zero))))))) h = record { code = _; here = refl; number = refl }
+is_code (suc (suc (suc (suc (suc (suc (suc (suc n)))))))) h = absurd (let z : ⊥ = omega arith in z)
 
 -- end of codes by number
 
@@ -125,6 +126,7 @@ terms_in_code c_check = refl
 terms_in_code c_normalise = refl
 terms_in_code c_equal = refl
 terms_in_code c_many = refl
+terms_in_code c_headwise = refl
 
 -- end of terms by code
 
@@ -138,6 +140,7 @@ code_again c_check = refl
 code_again c_normalise = refl
 code_again c_equal = refl
 code_again c_many = refl
+code_again c_headwise = refl
 
 -- end of codes again
 
@@ -151,6 +154,7 @@ many_number c_check = refl
 many_number c_normalise = refl
 many_number c_equal = refl
 many_number c_many = refl
+many_number c_headwise = refl
 
 -- end of many by number
 
@@ -163,6 +167,7 @@ is_many c_check e = absurd (let z : ◌≡◌ {A = ℕ} 0 1 = cc in omega arith)
 is_many c_normalise e = absurd (let z : ◌≡◌ {A = ℕ} 0 1 = cc in omega arith)
 is_many c_equal e = absurd (let z : ◌≡◌ {A = ℕ} 0 1 = cc in omega arith)
 is_many c_many e = refl
+is_many c_headwise e = absurd (let z : ◌≡◌ {A = ℕ} 0 1 = cc in omega arith)
 
 -- end of many by code
 
@@ -177,5 +182,6 @@ few_terms (some c_check) = omega arith
 few_terms (some c_normalise) = omega arith
 few_terms (some c_equal) = omega arith
 few_terms (some c_many) = omega arith
+few_terms (some c_headwise) = omega arith
 
 -- end of few terms

@@ -11,5 +11,5 @@ code_is b c e = let f = found {byte = code_number} table b c e in omega arith
   where
     table : Table code_number 0 codes
     -- written by tools/written.py: table of codes
-    table = entry refl (entry refl (entry refl (entry refl (entry refl (entry refl (entry refl end))))))
+    table = entry refl (entry refl (entry refl (entry refl (entry refl (entry refl (entry refl (entry refl end)))))))
     -- end of table of codes

@@ -4,13 +4,13 @@ use Rattle.std.proofs.Math.Option.{Option, none, some}
 use Rattle.ast.specs.declared.refusals.Refusal.{Refusal}
 use Rattle.ast.specs.declared.refusals.Refusal.TheVariants as refusal
 use Rattle.walk.specs.Syntax.{Term}
-use Rattle.walk.specs.Reader.{Read, got, bad, Code, c_context, c_universe, c_infer, c_check, c_normalise, c_equal, c_many, terms_of, Head, Call, check_of, Sent, all_calls, read_term, read_terms, read_head, read_call, read_run}
+use Rattle.walk.specs.Reader.{Read, got, bad, Code, c_context, c_universe, c_infer, c_check, c_normalise, c_equal, c_many, c_headwise, terms_of, Head, Call, check_of, Sent, all_calls, read_term, read_terms, read_head, read_call, read_run}
 use Rattle.walk.specs.Limits.{Sized, fits, scope_over, size_over, index_over, size_term, size_call}
 use Rattle.syntax.specs.declared.scan.Fault.{Fault}
 use Rattle.syntax.specs.declared.scan.Unread.{Unread}
 use Rattle.syntax.specs.declared.scan.Unread.TheVariants.{Bad, Short}
 use Rattle.syntax.specs.declared.calls.Code.{Code as CallCode}
-use Rattle.syntax.specs.declared.calls.Code.TheVariants.{Context, Universe, Infer, Check, Normalise, Equal, Many}
+use Rattle.syntax.specs.declared.calls.Code.TheVariants.{Context, Universe, Infer, Check, Normalise, Equal, Many, Headwise}
 use Rattle.syntax.specs.declared.scan.CallHead.{CallHead}
 use Rattle.syntax.specs.declared.scan.Scanned.{Scanned}
 use Rattle.syntax.specs.declared.scan.RefusedRun.{RefusedRun}
@@ -65,9 +65,10 @@ code_number c_check = 3
 code_number c_normalise = 4
 code_number c_equal = 5
 code_number c_many = 6
+code_number c_headwise = 7
 
 abbrev pub highest_code : ℕ
-highest_code = 6
+highest_code = 7
 
 -- end of numbers of codes
 
@@ -81,6 +82,7 @@ code_told c_check = Check
 code_told c_normalise = Normalise
 code_told c_equal = Equal
 code_told c_many = Many
+code_told c_headwise = Headwise
 
 -- end of codes told
 
@@ -93,6 +95,7 @@ code_of Check = c_check
 code_of Normalise = c_normalise
 code_of Equal = c_equal
 code_of Many = c_many
+code_of Headwise = c_headwise
 
 -- end of codes of the program
 

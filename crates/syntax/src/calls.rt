@@ -14,6 +14,7 @@ pub enum Code {
     Normalise = 4,
     Equal = 5,
     Many = 6,
+    Headwise = 7,
 }
 
 impl Code {
@@ -30,6 +31,7 @@ impl Code {
             4 => Some(Code::Normalise),
             5 => Some(Code::Equal),
             6 => Some(Code::Many),
+            7 => Some(Code::Headwise),
             _ => None,
         }
     }
@@ -54,6 +56,7 @@ impl Code {
             Code::Normalise => 2,
             Code::Equal => 3,
             Code::Many => 1,
+            Code::Headwise => 2,
         }
     }
 
@@ -69,6 +72,7 @@ impl Code {
             Code::Normalise => false,
             Code::Equal => false,
             Code::Many => true,
+            Code::Headwise => false,
         }
     }
 }

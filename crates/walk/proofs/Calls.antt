@@ -6,7 +6,7 @@ use Rattle.walk.specs.Syntax.{Term, Universe, Nil, quotes}
 use Rattle.walk.specs.Judgment.{Judgment, ctx}
 use Rattle.walk.specs.State.{Row, State, Outcome, with_deepest}
 use Rattle.walk.specs.Walk.{Callees, callees, typing, equation}
-use Rattle.walk.specs.Reader.{Code, c_context, c_universe, c_infer, c_check, c_normalise, c_equal, c_many, lists_types, Call}
+use Rattle.walk.specs.Reader.{Code, c_context, c_universe, c_infer, c_check, c_normalise, c_equal, c_many, c_headwise, lists_types, Call}
 use Rattle.walk.specs.Limits.{Sized, scope_over, size_over, index_over, fits, size_call}
 use Rattle.walk.specs.Run.{Result, Answer, answered, scope_of, nth, walk, play_sized, play_counted, play, play_all}
 use Rattle.walk.specs.Demand.{At, Extends, same, of_none, of_level, of_answer, judgment_of, Stated, no_call, call_on}
@@ -30,6 +30,7 @@ module _ (c : Callees) (S : Sound c) (d : ℕ) (types ts : List Term) (s : State
   walk_left c_normalise = left _ _ _ (λ out. equation d (scope_of Nil types) (nth ts 0) out.0 (nth ts 1)) (λ _. refl) (λ _ _ h. h) ((S.normalize d _ (nth ts 0) (nth ts 1)).holds s same good)
   walk_left c_equal = left _ _ _ (λ _. equation d (scope_of Nil types) (nth ts 0) (nth ts 1) (nth ts 2)) (λ _. refl) (λ _ _ h. h) ((S.equal d _ (nth ts 0) (nth ts 1) (nth ts 2)).holds s same good)
   walk_left c_many = record { good = good; grows = same; stated = λ e. absurd (omega arith) }
+  walk_left c_headwise = left _ _ _ (λ out. equation d (scope_of Nil types) (nth ts 0) out.0 (nth ts 1)) (λ _. refl) (λ _ _ h. h) ((S.head_normalize d _ (nth ts 0) (nth ts 1)).holds s same good)
 
 play_sized_left : (z : Sized) (call : Call) (s : State) → Good s → Left call s.rows (play_sized z call s)
 unfolding play_sized with_deepest

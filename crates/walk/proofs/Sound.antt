@@ -18,7 +18,7 @@ use Rattle.walk.proofs.Sound.Endpoints.{endpoint_sound}
 use Rattle.walk.proofs.Sound.Transforms.{under_sound, transform_sound}
 use Rattle.walk.proofs.Sound.Contexts.{dshiftctx_sound, ctx_sound, lookup_sound}
 use Rattle.walk.proofs.Sound.Typing.{expose_sound, universe_sound, check_sound, infer_sound}
-use Rattle.walk.proofs.Sound.Equality.{reduce_sound, normalize_sound, equal_sound}
+use Rattle.walk.proofs.Sound.Equality.{reduce_sound, head_step_sound, normalize_sound, head_normalize_sound, equal_sound}
 
 entered_sound : (n : ℕ) (c : Callees) → Sound c → Sound (entered n c)
 unfolding entered
@@ -31,6 +31,8 @@ entered_sound n c S = record {
   normalize = λ d g t ty. entering n _ λ _ _. normalize_sound c S d g t ty;
   equal = λ d g a b ty. entering n _ λ _ _. equal_sound c S d g a b ty;
   reduce = λ d g t. entering n _ λ _ _. reduce_sound c S d g t;
+  head_normalize = λ d g t ty. entering n _ λ _ _. head_normalize_sound c S d g t ty;
+  head_step = λ d g t. entering n _ λ _ _. head_step_sound c S d g t;
   lookup = λ g k. entering n _ λ _ _. lookup_sound c S g k;
   dshiftctx = λ g. entering n _ λ _ _. dshiftctx_sound c S g;
   transform = λ t op. entering n _ λ _ _. transform_sound c S t op;
@@ -54,6 +56,8 @@ none_left_sound = record {
   normalize = λ d g t ty. refusing (lit< tt);
   equal = λ d g a b ty. refusing (lit< tt);
   reduce = λ d g t. refusing (lit< tt);
+  head_normalize = λ d g t ty. refusing (lit< tt);
+  head_step = λ d g t. refusing (lit< tt);
   lookup = λ g k. refusing (lit< tt);
   dshiftctx = λ g. refusing (lit< tt);
   transform = λ t op. refusing (lit< tt);

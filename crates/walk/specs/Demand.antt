@@ -8,7 +8,7 @@ use Rattle.walk.specs.Judgment.{Judgment, ctx}
 use Rattle.walk.specs.Rules.{Follows}
 use Rattle.walk.specs.State.{Row}
 use Rattle.walk.specs.Walk.{typing, equation}
-use Rattle.walk.specs.Reader.{c_context, c_universe, c_infer, c_check, c_normalise, c_equal, c_many, Call}
+use Rattle.walk.specs.Reader.{c_context, c_universe, c_infer, c_check, c_normalise, c_equal, c_many, c_headwise, Call}
 use Rattle.walk.specs.Run.{Result, no_result, a_level, a_term, Answer, Ran, scope_of, nth, play_all, start}
 
 -- rows
@@ -104,6 +104,7 @@ judgment_of call result =
       | c_normalise ↦ of_answer result (λ normal. equation d g (t 0) normal (t 1))
       | c_equal ↦ of_none result (equation d g (t 0) (t 1) (t 2))
       | c_many ↦ none
+      | c_headwise ↦ of_answer result (λ normal. equation d g (t 0) normal (t 1))
     ]
 
 -- The call's row is in the table and states exactly the call's judgment.

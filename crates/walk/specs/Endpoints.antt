@@ -97,21 +97,21 @@ table = (
 ) ∷
     []
 
--- the rows by rules from iend.0 on, the oldest first
-abbrev by_new_rules : List Row → List (ℕ × Row) → List (ℕ × Row)
-by_new_rules [] found = found
-by_new_rules (r ∷ rs) found = by_new_rules rs (elim (ltb r.rule R.iend_0) [ true ↦ found | false ↦ (length rs, r) ∷ found ])
+-- the rows by rules from this one on, the oldest first
+abbrev by_rules : ℕ → List Row → List (ℕ × Row) → List (ℕ × Row)
+by_rules from [] found = found
+by_rules from (r ∷ rs) found = by_rules from rs (elim (ltb r.rule from) [ true ↦ found | false ↦ (length rs, r) ∷ found ])
 
-abbrev played : List (Line × List (ℕ × Row)) → List (Seen × List (ℕ × Row))
-played [] = []
-played (l ∷ ls) =
+abbrev pub played_by : ℕ → List (Line × List (ℕ × Row)) → List (Seen × List (ℕ × Row))
+played_by from [] = []
+played_by from (l ∷ ls) =
     let ran = run l.0.row_words l.0.cell_words l.0.answer_words l.0.bytes in
-    (see l.0.seen.table ran, by_new_rules ran.last.rows []) ∷ played ls
+    (see l.0.seen.table ran, by_rules from ran.last.rows []) ∷ played_by from ls
 
-abbrev stated : List (Line × List (ℕ × Row)) → List (Seen × List (ℕ × Row))
-stated [] = []
-stated (l ∷ ls) = (l.0.seen, l.1) ∷ stated ls
+abbrev pub stated_by : List (Line × List (ℕ × Row)) → List (Seen × List (ℕ × Row))
+stated_by [] = []
+stated_by (l ∷ ls) = (l.0.seen, l.1) ∷ stated_by ls
 
-pub endpoint_examples : played table ≡ stated table
+pub endpoint_examples : played_by R.iend_0 table ≡ stated_by table
 unfolding opened
 endpoint_examples = refl

@@ -167,7 +167,7 @@ table =
     listed "limit 4,096" (0 ∷ 16 ∷ []) (gives 0 0 0 []) ∷
     listed "limit 4,097" (1 ∷ 16 ∷ []) (refuses 3 0) ∷
     listed "the leftmost place" (0 ∷ 0 ∷ 9 ∷ []) (refuses 3 0) ∷
-    listed "no code" (limit_100 ++ 7 ∷ []) (refuses 3 2) ∷
+    listed "no code" (limit_100 ++ 8 ∷ []) (refuses 3 2) ∷
     listed "no kind" (limit_100 ++ 3 ∷ 0 ∷ 0 ∷ 4 ∷ 16 ∷ []) (refuses 3 6) ∷
     listed "a run that ends early" (limit_100 ++ 3 ∷ 0 ∷ 0 ∷ 4 ∷ []) (refuses 3 6) ∷
     in_slices "no row fits" 23 64 0 limit_100 (refuses 1 0) ∷

@@ -20,4 +20,5 @@ pub mod Examples
 pub mod Pairs
 pub mod Many
 pub mod Endpoints
+pub mod Heads
 pub mod Made

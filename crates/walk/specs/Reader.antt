@@ -56,11 +56,11 @@ ikinds = replicate 16 none ++ some k_0 ∷ some k_1 ∷ some k_dim ∷ some k_ne
 -- The codes of calls, with the number of terms that follow each.
 -- written by tools/written.py: calls
 pub data Code : Type 0 where
-  c_context c_universe c_infer c_check c_normalise c_equal c_many : Code
+  c_context c_universe c_infer c_check c_normalise c_equal c_many c_headwise : Code
   deriving Discrete as CodeDiscrete
 
 abbrev pub codes : List (Option Code)
-codes = some c_context ∷ some c_universe ∷ some c_infer ∷ some c_check ∷ some c_normalise ∷ some c_equal ∷ some c_many ∷ []
+codes = some c_context ∷ some c_universe ∷ some c_infer ∷ some c_check ∷ some c_normalise ∷ some c_equal ∷ some c_many ∷ some c_headwise ∷ []
 
 abbrev pub terms_of : Code → ℕ
 terms_of c_context = 0
@@ -70,6 +70,7 @@ terms_of c_check = 2
 terms_of c_normalise = 2
 terms_of c_equal = 3
 terms_of c_many = 1
+terms_of c_headwise = 2
 
 -- Whether a count and that many types come after them.
 abbrev pub lists_types : Code → Bool
@@ -80,6 +81,7 @@ lists_types c_check = false
 lists_types c_normalise = false
 lists_types c_equal = false
 lists_types c_many = true
+lists_types c_headwise = false
 
 -- end of calls
 

@@ -375,6 +375,12 @@ eq_p0_val = 122
 abbrev pub eq_p1_val : ℕ
 eq_p1_val = 123
 
+abbrev pub eq_app_cong : ℕ
+eq_app_cong = 124
+
+abbrev pub eq_papp_cong : ℕ
+eq_papp_cong = 125
+
 -- The judgments by number, as Judgment's `kind` has them.
 abbrev ctx : ℕ
 ctx = 0
@@ -560,11 +566,13 @@ rules =
     (iend_join named "iend.join" concludes iend) ∷
     (eq_p0_val named "eq.p0-val" concludes eq) ∷
     (eq_p1_val named "eq.p1-val" concludes eq) ∷
+    (eq_app_cong named "eq.app-cong" concludes eq) ∷
+    (eq_papp_cong named "eq.papp-cong" concludes eq) ∷
     []
 
 -- How many there are.
 abbrev pub rule_count : ℕ
-rule_count = 124
+rule_count = 126
 
 -- A number that is no rule has an empty name, and concludes a kind that no judgment has.
 abbrev pub no_rule : Named

@@ -366,3 +366,25 @@ pub data Follows : ℕ → List Judgment → Judgment → Type 0 where
       ∷ has d g c B
       ∷ [])
       (eq d g (papp p r) c B)
+  -- app-cong, papp-cong: that app and papp respect an equality of the head, which CCHM takes for granted. Added: the argument or the interval,
+  -- B(x/a) or A(i/r) by a premise, and that both sides have that type
+  by_eq_app_cong :
+      {d : ℕ} {g : Quotes} {f f' a A B B' : Quote} →
+      Follows R.eq_app_cong
+      (eq d g f f' (pi A B)
+      ∷ has d g a A
+      ∷ subst B 0 a B'
+      ∷ has d g (app f a) B'
+      ∷ has d g (app f' a) B'
+      ∷ [])
+      (eq d g (app f a) (app f' a) B')
+  by_eq_papp_cong :
+      {d : ℕ} {g : Quotes} {p p' A b c B : Quote} {r : Interval} →
+      Follows R.eq_papp_cong
+      (eq d g p p' (path A b c)
+      ∷ interval d r
+      ∷ dsubst A 0 r B
+      ∷ has d g (papp p r) B
+      ∷ has d g (papp p' r) B
+      ∷ [])
+      (eq d g (papp p r) (papp p' r) B)

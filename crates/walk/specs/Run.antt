@@ -5,12 +5,12 @@ use Rattle.walk.specs.Syntax.{Term, Nat, Context, Nil, Cons}
 use Rattle.walk.specs.Refusal as Refusal
 use Rattle.walk.specs.State.{State, Outcome, done, refused, with_deepest}
 use Rattle.walk.specs.Walk.{Callees, callees}
-use Rattle.walk.specs.Reader.{Read, got, bad, Code, CodeDiscrete, c_context, c_universe, c_infer, c_check, c_normalise, c_equal, c_many, lists_types, Call, read_run}
+use Rattle.walk.specs.Reader.{Read, got, bad, Code, CodeDiscrete, c_context, c_universe, c_infer, c_check, c_normalise, c_equal, c_many, c_headwise, lists_types, Call, read_run}
 use Rattle.walk.specs.Limits.{Sized, fits, scope_over, size_over, index_over, size_call}
 
 -- the answer of a call
 
--- A result: a level for code 1, a term for codes 2 and 4, else none.
+-- A result: a level for code 1, a term for codes 2, 4 and 7, else none.
 pub data Result : Type 0 where
   no_result : Result
   a_level : ℕ → Result
@@ -47,6 +47,7 @@ walk c c_check d g ts s = answered (λ row. row) (λ row. no_result) (c.check d 
 walk c c_normalise d g ts s = answered (λ out. out.1) (λ out. a_term out.0) (c.normalize d g (nth ts 0) (nth ts 1) s)
 walk c c_equal d g ts s = answered (λ row. row) (λ row. no_result) (c.equal d g (nth ts 0) (nth ts 1) (nth ts 2) s)
 walk c c_many d g ts s = (refusal Refusal.count 0, s)
+walk c c_headwise d g ts s = answered (λ out. out.1) (λ out. a_term out.0) (c.head_normalize d g (nth ts 0) (nth ts 1) s)
 
 -- Under 5, 6 and 7 nothing is walked.
 unfoldable pub play_sized : Sized → Call → State → Answer × State

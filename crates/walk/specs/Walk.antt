@@ -1,5 +1,5 @@
--- The walk: the sixteen reference functions of producer.rs, and `endpoint`. Each body stands in a module below, over the functions that
--- it calls; `callees n` are the functions with n entries left, so that one number falls and nothing else recurses.
+-- The walk: the sixteen reference functions of producer.rs, `endpoint`, and `head_normalize` with its `head_step`. Each body stands in a
+-- module below, over the functions that it calls; `callees n` are the functions with n entries left, so that one number falls and nothing else recurses.
 pub mod Reference
 pub mod Numbers
 pub mod Intervals
@@ -31,6 +31,8 @@ none_left more = record {
   normalize = λ d g t ty. refuse Refusal.nesting;
   equal = λ d g a b ty. refuse Refusal.nesting;
   reduce = λ d g t. refuse Refusal.nesting;
+  head_normalize = λ d g t ty. refuse Refusal.nesting;
+  head_step = λ d g t. refuse Refusal.nesting;
   lookup = λ g n. refuse Refusal.nesting;
   dshiftctx = λ g. refuse Refusal.nesting;
   transform = λ t op. refuse Refusal.nesting;
@@ -54,6 +56,8 @@ entered n c = record {
   normalize = λ d g t ty. enter n (of_context g ++ of_term t ++ of_term ty) (normalize_body c d g t ty);
   equal = λ d g a b ty. enter n (of_context g ++ of_term a ++ of_term b ++ of_term ty) (equal_body c d g a b ty);
   reduce = λ d g t. enter n (of_context g ++ of_term t) (reduce_body c d g t);
+  head_normalize = λ d g t ty. enter n (of_context g ++ of_term t ++ of_term ty) (head_normalize_body c d g t ty);
+  head_step = λ d g t. enter n (of_context g ++ of_term t) (head_step_body c d g t);
   lookup = λ g k. enter n (of_context g) (lookup_body c g k);
   dshiftctx = λ g. enter n (of_context g) (dshiftctx_body c g);
   transform = λ t op. enter n (of_term t ++ of_op op) (transform_body c t op);

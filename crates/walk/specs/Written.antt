@@ -2,7 +2,7 @@
 -- a call whose count of types is wrong. That both runs are the same is `same_run` of the crate `order`, Written.
 use Rattle.std.specs.Prelude.{ℕ, List, [], ◌∷◌, Bool, true, false, ◌&&◌, leb, length, get_or}
 use Rattle.walk.specs.Syntax.{Interval, I0, I1, Dim, Neg, Meet, Join, Term, Universe, Var, Nat, Zero, Pi, Lam, App, Path, PathLam, PathApp, Sigma, Pair, Fst, Snd}
-use Rattle.walk.specs.Reader.{Read, got, bad, ◌>>=◌, Code, c_context, c_universe, c_infer, c_check, c_normalise, c_equal, c_many, lists_types, Call, Sent, read_calls, read_limit}
+use Rattle.walk.specs.Reader.{Read, got, bad, ◌>>=◌, Code, c_context, c_universe, c_infer, c_check, c_normalise, c_equal, c_many, c_headwise, lists_types, Call, Sent, read_calls, read_limit}
 
 -- Each is written before the bytes that follow it, as the reader reads it.
 unfoldable pub write_interval : Interval → List ℕ → List ℕ
@@ -48,6 +48,7 @@ code_byte c_check = 3
 code_byte c_normalise = 4
 code_byte c_equal = 5
 code_byte c_many = 6
+code_byte c_headwise = 7
 
 -- end of bytes of codes
 

@@ -35,6 +35,7 @@ compare play SIDE KIND TIMES      one process of these: program, source or count
     --pairs       runs with pair types
     --many        runs with pair types, and calls with many types
     --ends        these, and long endpoints
+    --head        these, and calls that reduce at the head
     --work STEPS  gives a run up where the oracle takes more (10,000,000)
     --threads N   (2)
     --cuts N      each run cut after each of its first N calls too (0)
@@ -178,6 +179,7 @@ fn asked(words: &[&str]) -> Option<Asked> {
             "--pairs" => asked.terms = Terms::Pairs,
             "--many" => asked.terms = Terms::Many,
             "--ends" => asked.terms = Terms::Ends,
+            "--head" => asked.terms = Terms::Heads,
             "--work" => asked.work = words.next()?.parse().ok()?,
             "--threads" => asked.threads = words.next()?.parse().ok()?,
             "--cuts" => asked.cuts = words.next()?.parse().ok()?,

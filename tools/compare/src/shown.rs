@@ -23,7 +23,7 @@ pub fn program_text(left: &Left, ran: &Ran) -> String {
         let row = if words[1] == NO_ROW { "-".to_owned() } else { words[1].to_string() };
         let result = match ran.answers.get(i).map(|answer| answer.code) {
             Some(1) if words[0] == 0 => words[2].to_string(),
-            Some(2 | 4) if words[0] == 0 => quote::text(&nodes, words[2]),
+            Some(2 | 4 | 7) if words[0] == 0 => quote::text(&nodes, words[2]),
             _ if words[2] == 0 => "-".to_owned(),
             _ => words[2].to_string(),
         };

@@ -44,7 +44,7 @@ struct Vector {
 pub fn write(seed: u64, folder: &Path) -> Result<String> {
     let mut sides = Sides::new(10_000_000, 0);
     let mut chosen = Vec::new();
-    for terms in [Terms::Plain, Terms::Pairs, Terms::Many, Terms::Ends] {
+    for terms in [Terms::Plain, Terms::Pairs, Terms::Many, Terms::Ends, Terms::Heads] {
         chosen.append(&mut by_hand(&mut sides, terms));
         by_chance(&mut Sides::new(BRIEF, 0), terms, seed, &mut chosen);
     }
@@ -106,13 +106,14 @@ fn vector(sides: &mut Sides, name: String, mut case: Case) -> Option<Vector> {
     Some(Vector { name, case, ran, text })
 }
 
-/// The name of a stored run: with pairs, many types or long endpoints, it says so.
+/// The name of a stored run: with pairs, many types, long endpoints or code 7, it says so.
 fn named(terms: Terms, name: String) -> String {
     match terms {
         Terms::Plain => name,
         Terms::Pairs => format!("pairs {name}"),
         Terms::Many => format!("many {name}"),
         Terms::Ends => format!("ends {name}"),
+        Terms::Heads => format!("heads {name}"),
     }
 }
 

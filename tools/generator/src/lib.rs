@@ -5,6 +5,7 @@ mod calls;
 mod damage;
 mod edges;
 mod ends;
+mod heads;
 mod kinds;
 mod large;
 mod many;
@@ -28,5 +29,6 @@ pub fn seeds(terms: Terms) -> Vec<Case> {
         Terms::Pairs => pairs::cases(),
         Terms::Many => many::cases(),
         Terms::Ends => ends::cases(),
+        Terms::Heads => heads::cases(),
     }
 }

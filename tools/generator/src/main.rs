@@ -1,7 +1,7 @@
 //! Writes runs as a batch: those at COUNT places from FIRST on under SEED (with
 //! sweep, each in many slices), those written by hand, or all short ones; with
 //! --pairs such that have pairs, with --many calls with many types too, with --ends
-//! long endpoints besides.
+//! long endpoints besides, with --head calls that reduce at the head.
 use generator::Terms;
 use std::io::{self, BufWriter, Write};
 use std::process::ExitCode;
@@ -9,9 +9,9 @@ use std::process::ExitCode;
 type Cases = Box<dyn Iterator<Item = generator::Case>>;
 
 const USAGE: &str = "\
-generator [--pairs | --many | --ends] [sweep] SEED COUNT [FIRST]
-generator [--pairs | --many | --ends] seeds
-generator [--pairs | --many | --ends] short LENGTH
+generator [--pairs | --many | --ends | --head] [sweep] SEED COUNT [FIRST]
+generator [--pairs | --many | --ends | --head] seeds
+generator [--pairs | --many | --ends | --head] short LENGTH
 ";
 
 fn main() -> ExitCode {
@@ -37,6 +37,7 @@ fn cases(words: &[String]) -> Option<Cases> {
         Some("--pairs") => Terms::Pairs,
         Some("--many") => Terms::Many,
         Some("--ends") => Terms::Ends,
+        Some("--head") => Terms::Heads,
         _ => Terms::Plain,
     };
     let words = &words[usize::from(terms != Terms::Plain)..];

@@ -11,6 +11,8 @@ pub enum Terms {
     Many,
     /// These, and intervals that work out to an end, written long.
     Ends,
+    /// These, and calls that reduce at the head.
+    Heads,
 }
 
 pub struct Random {
@@ -40,12 +42,17 @@ impl Random {
 
     /// Whether calls with many types may be made.
     pub fn many(&self) -> bool {
-        matches!(self.terms, Terms::Many | Terms::Ends)
+        matches!(self.terms, Terms::Many | Terms::Ends | Terms::Heads)
     }
 
     /// Whether ends are written long.
     pub fn ends(&self) -> bool {
-        self.terms == Terms::Ends
+        matches!(self.terms, Terms::Ends | Terms::Heads)
+    }
+
+    /// Whether calls reduce at the head.
+    pub fn heads(&self) -> bool {
+        self.terms == Terms::Heads
     }
 
     /// A number below `plain`, or below `plain + more` where pairs may be made.

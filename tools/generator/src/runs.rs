@@ -5,7 +5,7 @@ use crate::term::{
     app, fst, lam, neg, pair, papp, path, pi, plam, sigma, snd, Interval, Term, LETTERS,
 };
 use crate::typed::{Maker, Scope};
-use crate::{damage, edges, ends as long_ends, many, pairs, shapes};
+use crate::{damage, edges, ends as long_ends, heads, many, pairs, shapes};
 use Interval::{I0, I1};
 use Term::{Nat, Zero, U, V};
 
@@ -46,6 +46,9 @@ fn noise(random: &mut Random) -> Case {
 }
 
 fn some_calls(random: &mut Random) -> Vec<Call> {
+    if random.heads() && random.chance(1, 2) {
+        return heads::calls(random);
+    }
     if random.ends() && random.chance(1, 2) {
         return if random.chance(1, 2) { ends(random) } else { long_ends::calls(random) };
     }
@@ -101,7 +104,8 @@ fn typed(random: &mut Random) -> Vec<Call> {
                 1 => maker.reannotated(&s, &ty, false),
                 _ => ty,
             };
-            new(4, &[t, wanted])
+            let heads = maker.0.heads() && maker.0.chance(1, 2);
+            new(if heads { heads::HEAD } else { 4 }, &[t, wanted])
         }
         _ => {
             let other = match maker.0.below_with_pairs(4, 2) {

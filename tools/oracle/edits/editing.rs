@@ -12,6 +12,8 @@ pub enum Edit {
     Each(&'static str, &'static str),
     /// Take out the method call that starts so, with its arguments.
     CutCall(&'static str),
+    /// Take out the branch `else if ..` that starts so, up to the next one.
+    CutElse(&'static str),
     /// Put a refusal's number in the place of the error `Err(..)` whose text
     /// has these words.
     Refuse(&'static str, u8),
@@ -55,6 +57,11 @@ fn place(
         Edit::CutCall(start) => {
             let a = only(text, from, to, start)?;
             (a, close(text, a, start)?, String::new())
+        }
+        Edit::CutElse(start) => {
+            let a = only(text, from, to, start)?;
+            let body = text[a..to].find("{\n").ok_or(format!("no body after {start:?}"))? + a;
+            (a, close(text, body, start)? + 1, String::new())
         }
         Edit::Refuse(words, number) => {
             let at = only(text, from, to, words)?;

@@ -1,6 +1,6 @@
-//! The edits, all of them: what is done to the source's four files to make
+//! The edits, all of them: what is done to the source's five files to make
 //! them the oracle. Function bodies stay as they are but for the lines below.
-use crate::editing::Edit::{Cut, CutCall, Each, Put, Refuse};
+use crate::editing::Edit::{Cut, CutCall, CutElse, Each, Put, Refuse};
 use crate::editing::Step;
 
 /// A source file, the name of its edited copy, and its edits.
@@ -9,6 +9,7 @@ pub const FILES: &[(&str, &str, &[Step])] = &[
     ("src/cubical/producer/syntax.rs", "syntax.rs", SYNTAX),
     ("src/cubical/producer.rs", "producer.rs", PRODUCER),
     ("src/cubical/producer/sigma.rs", "sigma.rs", SIGMA),
+    ("src/cubical/producer/congruence.rs", "congruence.rs", CONGRUENCE),
 ];
 
 const AST: &[Step] = &[
@@ -168,6 +169,12 @@ const PRODUCER: &[Step] = &[
                 let (ty, sub_ty) = self.transform(&a, &Op::DSubst(0, r.clone()))?;",
         ),
     ),
+    // HEADS: `normalize` walks with either step (src/cubical/producer/heads.rs).
+    Step("fn normalize_source(", Put("t: &Term, ty: &Term)", "t: &Term, ty: &Term, head: bool)")),
+    Step(
+        "fn normalize_source(",
+        Put("self.reduce(d, g, &current)?", "self.step(head, d, g, &current)?"),
+    ),
     // A result takes cells just before the row that names it.
     Step(
         "fn itransform_source(",
@@ -288,4 +295,53 @@ const SIGMA: &[Step] = &[
     Step("fn sigma_subject(", Refuse("projection requires", 21)),
     Step("pub(super) fn sigma_infer(", Refuse("pair annotation must", 22)),
     Step("pub(super) fn sigma_infer(", Put("\"expected Sigma syntax\".into()", "Refusal::NEVER")),
+];
+
+const CONGRUENCE: &[Step] = &[
+    // As above.
+    Step("", Put("//! Untrusted", "// Untrusted")),
+    Step("", Put("//! at the rule's", "// at the rule's")),
+    Step("", Put("use super::{Face, ", "use super::{Refusal, ")),
+    // The head of an app and of a papp alone, and never the argument.
+    Step("pub(super) fn reduce_congruence(", Cut("Fst(p) | Snd(p) =>")),
+    Step("pub(super) fn reduce_congruence(", Cut("Unglue(p) =>")),
+    Step("pub(super) fn reduce_congruence(", CutElse("else if let Some((arg2, ")),
+    // No face: `infer`, `expose`, `check` and `interval` for the restricted calls, and the
+    // step for `restricted_reduce`, which tries the root and then this.
+    Step("pub(super) fn congruence_subject(", Cut("phi: &Face,")),
+    Step("pub(super) fn reduce_congruence(", Cut("phi: &Face,")),
+    Step("", Put("self.local(d, phi, r, r)", "self.interval(d, r)")),
+    Step("", Each("phi,", "")),
+    Step("", Each("self.restricted_infer(", "self.infer(")),
+    Step("", Put(".restricted_expose_until(scope, ", ".expose(scope.0, scope.1, ")),
+    Step("pub(super) fn congruence_subject(", Put("&ty, typed, head)", "&ty, typed)")),
+    Step("", Each("self.restricted_check(", "self.check(")),
+    Step("", Each("self.restricted_reduce(scope, ", "self.head_step(scope.0, scope.1, ")),
+    // A head whose step has another type is refused; nothing is converted.
+    Step("", Each("self.restricted_convert_equality(", "self.at_type(")),
+    Step("", Put("(&actual, &fty)", "&fty")),
+    Step("", Put("(&actual, &pty)", "&pty")),
+    Step("", Each(", actual, ", ", ")),
+    // The argument's row is cited as it is, and the head's typing is not.
+    Step("", Put("let (fty, ftyped) =", "let (fty, _) =")),
+    Step("", Cut("let arg_eq = self.restricted_evidence(")),
+    Step("", Put("(f2, *arg.clone(), eq, arg_eq)", "(f2, *arg.clone(), eq, argtyped)")),
+    // The rules, as the change request names them; the row is that of any reduction.
+    Step("", Put("\"req.app-cong\"", "\"eq.app-cong\"")),
+    Step("", Put("\"req.papp-cong\"", "\"eq.papp-cong\"")),
+    Step(
+        "pub(super) fn reduce_congruence(",
+        Put("Result<Option<(Term, Term, usize)>>", "Result<Option<(Term, usize)>>"),
+    ),
+    Step(
+        "pub(super) fn reduce_congruence(",
+        Put("self.restricted_evidence(rule, refs, scope, ", "self.equality_step(rule, refs, scope, "),
+    ),
+    Step("pub(super) fn reduce_congruence(", Put("(term, &out), &ty)?", "term, &out, &ty)?")),
+    Step("pub(super) fn reduce_congruence(", Put("Ok(Some((out, ty, id)))", "Ok(Some((out, id)))")),
+    // The term was typed, so its head has such a type: this error has no number.
+    Step(
+        "pub(super) fn congruence_subject(",
+        Put("\"congruence subject has the wrong type head\".into()", "Refusal::NEVER"),
+    ),
 ];

@@ -15,12 +15,17 @@ pub mod producer {
         include!(concat!(env!("OUT_DIR"), "/sigma.rs"));
     }
 
+    mod congruence {
+        include!(concat!(env!("OUT_DIR"), "/congruence.rs"));
+    }
+
     mod syntax {
         include!(concat!(env!("OUT_DIR"), "/syntax.rs"));
     }
 
     // Ours, below the source's module so that they see its private names.
     mod endpoints;
+    mod heads;
     pub mod play;
     mod watched;
 }

@@ -110,7 +110,7 @@ pub const JUDGMENTS: &[(&str, &[Sort])] = &[
 
 /// The rules by number: the name, and the number of the judgment concluded.
 // written by tools/written.py: rules
-pub const RULES: [(&str, usize); 124] = [
+pub const RULES: [(&str, usize); 126] = [
     ("ctx.nil", 0),
     ("ctx.cons", 0),
     ("dshiftctx.nil", 1),
@@ -235,6 +235,8 @@ pub const RULES: [(&str, usize); 124] = [
     ("iend.join", 15),
     ("eq.p0-val", 14),
     ("eq.p1-val", 14),
+    ("eq.app-cong", 14),
+    ("eq.papp-cong", 14),
 ];
 // end of rules
 
@@ -247,7 +249,7 @@ pub fn rule_number(name: &str) -> usize {
 /// How many terms a call of each code has; the code that has a count and that many
 /// types after them; the highest number of a refusal.
 // written by tools/written.py: calls and refusals
-pub const CALLS: [usize; 7] = [0, 1, 1, 2, 2, 3, 1];
+pub const CALLS: [usize; 8] = [0, 1, 1, 2, 2, 3, 1, 2];
 pub const MANY: u8 = 6;
 pub const LAST_REFUSAL: usize = 23;
 // end of calls and refusals
@@ -256,7 +258,7 @@ pub const LAST_REFUSAL: usize = 23;
 /// its kinds, and where the rules and refusals before it end.
 // written by tools/written.py: ahead of the program
 pub const AHEAD_KINDS: [u8; 0] = [];
-pub const LANDED_RULES: usize = 124;
+pub const LANDED_RULES: usize = 126;
 pub const LANDED_REFUSAL: usize = 23;
 // end of ahead of the program
 

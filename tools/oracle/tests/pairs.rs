@@ -1,12 +1,12 @@
-//! Pair types and calls with many types, held against the reference, which was
-//! written apart, on runs of the generator.
+//! Pair types, calls with many types, and calls that reduce at the head, held against
+//! the reference, which was written apart, on runs of the generator.
 use generator::{case, seeds, Case, Terms};
 use oracle::{batch, play, Options, Slices};
 use reference::{on_large_stack, Level};
 use std::collections::BTreeSet;
 
-/// With code 6, which is read as a code wherever one is due.
-const LEVEL: u8 = 3;
+/// With codes 6 and 7, which are read as codes wherever one is due, and long endpoints.
+const LEVEL: u8 = 9;
 const WORK: u64 = 1_000_000;
 const RUNS: u64 = 2_000;
 
@@ -24,8 +24,9 @@ fn theirs(level: Level, Case { slices: [rows, cells, answers], bytes }: &Case) -
     let ran = reference::play(level, bytes, slices, WORK);
     let mut out = String::new();
     reference::batch::write(&mut out, level, ran.as_ref()).unwrap();
-    let numbers = |line: &&str| line.starts_with("results") || line.starts_with("args");
-    out.split_inclusive('\n').filter(|line| !numbers(line)).collect()
+    // Numbers of cells are not told by the oracle.
+    let told = |line: &&str| !line.starts_with("results") && !line.starts_with("args");
+    out.split_inclusive('\n').filter(told).collect()
 }
 
 /// The numbers that come first in the lines with this name.
@@ -67,4 +68,11 @@ fn pairs_as_the_reference_has_them() {
 fn many_types_as_the_reference_has_them() {
     let [_, numbers] = held(Terms::Many, 2038);
     assert!(numbers.contains(&23), "{numbers:?}");
+}
+
+#[test]
+fn heads_as_the_reference_has_them() {
+    let [rules, numbers] = held(Terms::Heads, 2037);
+    assert!((117..=125).all(|rule| rules.contains(&rule)), "{rules:?}");
+    assert!(numbers.contains(&14) && numbers.contains(&15), "{numbers:?}");
 }

@@ -8,14 +8,14 @@ use Rattle.producer.specs.Callees.{Callees, prepared}
 use Rattle.producer.specs.Calls.{callees}
 use Rattle.walk.specs.Refusal as Refusal
 use Rattle.walk.specs.Syntax.{Term, Context, Nil, Cons}
-use Rattle.walk.specs.Reader.{Code, c_context, c_universe, c_infer, c_check, c_normalise, c_equal, c_many, terms_of, lists_types, Call, check_of}
+use Rattle.walk.specs.Reader.{Code, c_context, c_universe, c_infer, c_check, c_normalise, c_equal, c_many, c_headwise, terms_of, lists_types, Call, check_of}
 use Rattle.walk.specs.Limits.{fits, size_terms, size_call}
 use Rattle.walk.specs.Run.{scope_of, nth}
 use Rattle.syntax.specs.Told.{code_number, head_in}
 use Rattle.syntax.specs.Heads.{code_again}
 use Rattle.syntax.specs.Calls.{TermsAt, no_terms, next_term, CallAt, CallFits, call_fits, size_first, size_terms_first, size_terms_append, true_false}
 use Rattle.syntax.specs.Fuel.{fit_term}
-use Rattle.link.specs.Asked.{build_term, build_context, call_ctx, call_universe, call_infer, call_check, call_normalize, call_equal}
+use Rattle.link.specs.Asked.{build_term, build_context, call_ctx, call_universe, call_infer, call_check, call_normalize, call_head_normalize, call_equal}
 use Rattle.run.specs.Build.{made, built, scoped, scoped_body}
 use Rattle.run.specs.Call.{row_alone, row_first, row_quoted, with_sides, with_term, by_code, with_scope, with_context}
 use Rattle.run.specs.Same.Steps.{then_same, then_then, then_give, give_then, made_then, made_in}
@@ -53,6 +53,7 @@ by_call c c_check d g ts = row_alone (call_check c d g (nth ts 0) (nth ts 1))
 by_call c c_normalise d g ts = row_quoted (call_normalize c d g (nth ts 0) (nth ts 1))
 by_call c c_equal d g ts = row_alone (call_equal c d g (nth ts 0) (nth ts 1) (nth ts 2))
 by_call c c_many d g ts = stop Refusal.count
+by_call c c_headwise d g ts = row_quoted (call_head_normalize c d g (nth ts 0) (nth ts 1))
 
 -- From one offset to another stand terms that become their cells.
 data Sent (bytes : List ℕ) : ℕ → List Term → ℕ → Type 0 where
@@ -87,7 +88,7 @@ module _ (c : Callees) (types : List Term) where
 module _ (bytes : List ℕ) (left d : ℕ) (types : List Term) where
   -- the terms of a call, by its code
   coded : (at ty : ℕ) (code : Code) (ts : List Term) {end : ℕ} → lists_types code ≡ false → length ts ≡ terms_of code → Sent bytes at ts end → (prepared (callees left) make_nil >>= λ nil. scope_cells types nil >>= λ g. by_code left bytes at ty (code_number code) d g) ≡ by_call (callees left) code d (scope_of Nil types) ts
-  unfolding by_code with_term with_sides by_call when◌then◌else◌ call_ctx call_universe call_infer call_check call_normalize call_equal
+  unfolding by_code with_term with_sides by_call when◌then◌else◌ call_ctx call_universe call_infer call_check call_normalize call_head_normalize call_equal
   coded at ty c_context [] f l no_sent = row_asked (callees left) types _ (λ g. (callees left).ctx d g) (λ g. refl)
   coded at ty c_universe (t ∷ []) f l (next_sent {middle = m₁} e no_sent) = result_asked (callees left) types row_first first_in _ (λ g. build_term t >>= λ x. (callees left).universe d g x) (λ g. rw e (made_then m₁ (build_term t) _ ∙ sym (first_in _ (build_term t) _)))
   coded at ty c_infer (t ∷ []) f l (next_sent {middle = m₁} e no_sent) = result_asked (callees left) types row_quoted quoted_in _ (λ g. build_term t >>= λ x. (callees left).infer d g x) (λ g. rw e (made_then m₁ (build_term t) _ ∙ sym (quoted_in _ (build_term t) _)))
@@ -110,6 +111,10 @@ module _ (bytes : List ℕ) (left d : ℕ) (types : List Term) where
   coded at ty c_equal (t ∷ u ∷ []) f l e = absurd (omega (arith, l))
   coded at ty c_equal (t ∷ u ∷ v ∷ x ∷ ts) f l e = absurd (omega (arith, l))
   coded at ty c_many ts f l e = true_false f
+  coded at ty c_headwise (t ∷ u ∷ []) f l (next_sent {middle = m₁} e (next_sent {middle = m₂} e₂ no_sent)) = result_asked (callees left) types row_quoted quoted_in _ (λ g. build_term t >>= λ x. build_term u >>= λ y. (callees left).head_normalize d g x y) (λ g. rw e (made_then m₁ (build_term t) _ ∙ then_same (build_term t) (λ x. rw e₂ (made_then m₂ (build_term u) _ ∙ sym (quoted_in _ (build_term u) _))) ∙ sym (quoted_in _ (build_term t) _)))
+  coded at ty c_headwise [] f l e = absurd (omega (arith, l))
+  coded at ty c_headwise (t ∷ []) f l e = absurd (omega (arith, l))
+  coded at ty c_headwise (t ∷ u ∷ v ∷ ts) f l e = absurd (omega (arith, l))
 
   -- a check, whose type stands elsewhere
   coded_draft : (at ty next end : ℕ) (t u : Term) → built 33 bytes at ≡ made next (build_term t) → built 33 bytes ty ≡ made end (build_term u) → (prepared (callees left) make_nil >>= λ nil. scope_cells types nil >>= λ g. by_code left bytes at ty (code_number c_many) d g) ≡ by_call (callees left) c_check d (scope_of Nil types) (t ∷ u ∷ [])

@@ -13,7 +13,7 @@ use Rattle.producer.specs.Callees.{Callees}
 use Rattle.producer.specs.Calls.{callees}
 use Rattle.walk.specs.Refusal as Refusal
 use Rattle.walk.specs.Syntax.{Term, Context, Nil}
-use Rattle.walk.specs.Reader.{Read, got, bad, Code, c_context, c_universe, c_infer, c_check, c_normalise, c_equal, c_many, lists_types, Call, check_of, Sent, checks_of, calls_of, all_calls, read_run}
+use Rattle.walk.specs.Reader.{Read, got, bad, Code, c_context, c_universe, c_infer, c_check, c_normalise, c_equal, c_many, c_headwise, lists_types, Call, check_of, Sent, checks_of, calls_of, all_calls, read_run}
 use Rattle.walk.specs.Limits.{Sized, fits, scope_over, size_over, index_over, size_call}
 use Rattle.walk.specs.Run.{scope_of, Ran, run_read, run}
 use Rattle.walk.specs.Run as R
@@ -67,6 +67,7 @@ asked next c c_check f d g ts w = row_told next _ w
 asked next c c_normalise f d g ts w = result_told next lowest_of _ w
 asked next c c_equal f d g ts w = row_told next _ w
 asked next c c_many f d g ts w = true_false f
+asked next c c_headwise f d g ts w = result_told next lowest_of _ w
 
 low_is : (n : ℕ) → n < 4294967296 → low_of n ≡ n
 unfolding low_of

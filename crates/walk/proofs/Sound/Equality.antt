@@ -1,18 +1,18 @@
--- The rows of normalize, equal and reduce state what they should.
+-- The rows of normalize, equal and reduce state what they should, and those of head_normalize and head_step.
 use Rattle.std.specs.Prelude.{ℕ, ◌≡◌, List, [], ◌∷◌, ◌++◌}
 use Rattle.std.proofs.Math.Path.{subst as along}
 use Rattle.std.proofs.Common.{ap, lit<}
-use Rattle.std.proofs.Math.Option.{none}
+use Rattle.std.proofs.Math.Option.{Option, none, some}
 use Rattle.walk.specs.Syntax.{quote, quote?, Interval, I0, I1, Dim, Neg, Meet, Join, Term, Universe, Var, Nat, Zero, Pi, Lam, App, Path, PathLam, PathApp, Sigma, Pair, Fst, Snd, Context, Cons, Quote, path, plam, papp, Quotes}
 use Rattle.walk.specs.Judgment.{Judgment, interval, dsubst, has, eq, iend}
-use Rattle.walk.specs.Rules.{Follows, by_eq_refl, by_eq_sym, by_eq_trans, by_eq_beta, by_eq_pbeta, by_eq_p0, by_eq_p1, by_eq_fst_beta, by_eq_snd_beta, by_eq_p0_val, by_eq_p1_val}
-use Rattle.walk.specs.State.{Row}
-use Rattle.walk.specs.Walk.{Subst, DSubst, End, E0, E1, Callees, literal, typing, lam_parts, plam_parts, pair_parts, equation, beta, at_end, pbeta, ends, along as along_of, written, long_end, side, val_rule, at_val, fst_beta, snd_beta, reduce_body, rounds, normalize_body, equal_body}
+use Rattle.walk.specs.Rules.{Follows, by_eq_refl, by_eq_sym, by_eq_trans, by_eq_beta, by_eq_pbeta, by_eq_p0, by_eq_p1, by_eq_fst_beta, by_eq_snd_beta, by_eq_p0_val, by_eq_p1_val, by_eq_app_cong, by_eq_papp_cong}
+use Rattle.walk.specs.State.{Row, M}
+use Rattle.walk.specs.Walk.{Subst, DSubst, End, E0, E1, Step, Callees, literal, typing, lam_parts, plam_parts, pair_parts, equation, beta, at_end, pbeta, ends, along as along_of, written, long_end, side, val_rule, at_val, fst_beta, snd_beta, reduce_body, head_goes, congruent, app_cong, papp_cong, at_head, head_step_body, rounds, normal_by, normalize_body, head_normalize_body, equal_body}
 use Rattle.walk.specs.Demand.{At, Cites, none_cited, ◌also◌, same}
-use Rattle.walk.specs.Sound.Logic.{lift, ◌and◌by◌, bind, refusing, giving, branch, cases, emitted, Keeps}
+use Rattle.walk.specs.Sound.Logic.{lift, lifts, append, ◌and◌by◌, bind, refusing, giving, branch, cases, emitted, Keeps}
 use Rattle.walk.specs.Sound.Says.{Stepped, Ended, Sound}
 use Rattle.walk.specs.Sound.Parts.{lam_is, plam_is, pair_is}
-use Rattle.walk.proofs.Sound.Typing.{as_path_sound, as_sigma_sound}
+use Rattle.walk.proofs.Sound.Typing.{as_pi_sound, as_path_sound, as_sigma_sound}
 use Rattle.walk.specs.Rule as R
 
 -- two rules at equal quotes
@@ -105,22 +105,100 @@ module _ (c : Callees) (S : Sound c) where
   reduce_sound d g (Fst p) = cases (pair_parts p) (λ of q. rw (pair_is p of q) (fst_beta_sound d g of.0 of.1 of.2)) (λ _. giving none λ _ _. tt)
   reduce_sound d g (Snd p) = cases (pair_parts p) (λ of q. rw (pair_is p of q) (snd_beta_sound d g of.0 of.1 of.2)) (λ _. giving none λ _ _. tt)
 
-  rounds_sound : {rs : List Row} (left d : ℕ) (g : Context) (t ty current : Term) (x : ℕ) → At x (equation d g t current ty) rs → Keeps rs (rounds left c d g t ty current x) (λ o. At o.1 (equation d g t o.0 ty))
-  unfolding rounds
-  rounds_sound ℕ.zero d g t ty current x hx = bind (S.reduce d g current) λ o _ e₁ _. cases o (λ _ _. refusing (lit< tt)) (λ _. giving (current, x) λ _ e. lift e (lift e₁ hx))
-  rounds_sound (ℕ.suc left) d g t ty current x hx =
-      bind (S.reduce d g current) λ o rs₁ e₁ h₁.
+  -- what a head goes to, at the type ty
+  abbrev Gone : ℕ → Context → Term → Term → Option (Term × ℕ) → List Row → Type 0
+  Gone d g f ty none rs = Unit {0}
+  Gone d g f ty (some (f', x)) rs = At x (equation d g f f' ty) rs
+
+  head_goes_sound : {rs : List Row} (d : ℕ) (g : Context) (f ty : Term) → Keeps rs (head_goes c d g f ty) (Gone d g f ty)
+  unfolding head_goes
+  head_goes_sound d g f ty =
+      bind (S.head_step d g f) λ o rs₁ _ h₁.
       cases o
       (λ step q. branch (quote? (quote step.type) (quote ty))
-      (λ q'. bind (S.check d g step.term ty) λ _ _ e₂ _.
-      let h : At step.row (equation d g current step.term step.type) rs₁ = along (λ o. Stepped d g current o rs₁) q h₁ in
-      bind (emitted (lift e₂ (lift e₁ hx) also lift e₂ (rw q' at h) also none_cited) by_eq_trans) λ y _ _ h₃. rounds_sound left d g t ty step.term y h₃)
+      (λ q'. let h : At step.row (equation d g f step.term step.type) rs₁ = along (λ o. Stepped d g f o rs₁) q h₁ in giving (some (step.term, step.row)) λ _ e. lift e (rw q' at h))
+      (λ _. refusing (lit< tt)))
+      (λ _. giving none λ _ _. tt)
+
+  congruent_sound : {rs : List Row} {refs : List ℕ} {js : List Judgment} (d : ℕ) (g : Context) (t out ty : Term) (rule : ℕ) → Cites rs refs js → Follows rule (js ++ typing d g t ty ∷ typing d g out ty ∷ []) (equation d g t out ty) → Keeps rs (congruent c d g t out ty refs rule) (Stepped d g t)
+  unfolding congruent
+  congruent_sound d g t out ty rule cs follows =
+      bind (S.check d g t ty) λ _ _ e₁ h₁. bind (S.check d g out ty) λ _ _ e₂ h₂.
+      bind (emitted (append (lifts e₂ (lifts e₁ cs)) (lift e₂ h₁ also h₂ also none_cited)) follows) λ row _ _ h. giving _ λ _ e. lift e h
+
+  app_cong_sound : {rs : List Row} (d : ℕ) (g : Context) (f a : Term) → Keeps rs (app_cong c d g f a) (Stepped d g (App f a))
+  unfolding app_cong
+  app_cong_sound d g f a =
+      bind (as_pi_sound c S d g f) λ o₁ _ _ _. bind (head_goes_sound d g f (Pi o₁.0.0 o₁.0.1)) λ o rs₂ _ h₂.
+      cases o
+      (λ head q. let h : At head.1 (equation d g f head.0 (Pi o₁.0.0 o₁.0.1)) rs₂ = along (λ o. Gone d g f (Pi o₁.0.0 o₁.0.1) o rs₂) q h₂ in
+      bind (S.check d g a o₁.0.0) λ _ _ e₃ h₃. bind (S.transform o₁.0.1 (Subst 0 a)) λ o₄ _ e₄ h₄.
+      congruent_sound d g (App f a) (App head.0 a) o₄.0 R.eq_app_cong (none_cited and h by same and h₃ by e₃ and h₄ by e₄) by_eq_app_cong)
+      (λ _. giving none λ _ _. tt)
+
+  papp_cong_sound : {rs : List Row} (d : ℕ) (g : Context) (p : Term) (r : Interval) → Keeps rs (papp_cong c d g p r) (Stepped d g (PathApp p r))
+  unfolding papp_cong
+  papp_cong_sound d g p r =
+      bind (as_path_sound c S d g p) λ o₁ _ _ _. bind (head_goes_sound d g p (Path o₁.0.0 o₁.0.1 o₁.0.2)) λ o rs₂ _ h₂.
+      cases o
+      (λ head q. let h : At head.1 (equation d g p head.0 (Path o₁.0.0 o₁.0.1 o₁.0.2)) rs₂ = along (λ o. Gone d g p (Path o₁.0.0 o₁.0.1 o₁.0.2) o rs₂) q h₂ in
+      bind (S.interval d r) λ _ _ e₃ h₃. bind (S.transform o₁.0.0 (DSubst 0 r)) λ o₄ _ e₄ h₄.
+      congruent_sound d g (PathApp p r) (PathApp head.0 r) o₄.0 R.eq_papp_cong (none_cited and h by same and h₃ by e₃ and h₄ by e₄) by_eq_papp_cong)
+      (λ _. giving none λ _ _. tt)
+
+  at_head_sound : {rs : List Row} (d : ℕ) (g : Context) (t : Term) → Keeps rs (at_head c d g t) (Stepped d g t)
+  unfolding at_head
+  at_head_sound d g (Universe l) = giving none λ _ _. tt
+  at_head_sound d g (Var n) = giving none λ _ _. tt
+  at_head_sound d g Nat = giving none λ _ _. tt
+  at_head_sound d g Zero = giving none λ _ _. tt
+  at_head_sound d g (Pi a b) = giving none λ _ _. tt
+  at_head_sound d g (Lam a b) = giving none λ _ _. tt
+  at_head_sound d g (App f a) = app_cong_sound d g f a
+  at_head_sound d g (Path a b e) = giving none λ _ _. tt
+  at_head_sound d g (PathLam a b) = giving none λ _ _. tt
+  at_head_sound d g (PathApp p r) = papp_cong_sound d g p r
+  at_head_sound d g (Sigma a b) = giving none λ _ _. tt
+  at_head_sound d g (Pair ty a b) = giving none λ _ _. tt
+  at_head_sound d g (Fst p) = giving none λ _ _. tt
+  at_head_sound d g (Snd p) = giving none λ _ _. tt
+
+  pub head_step_sound : {rs : List Row} (d : ℕ) (g : Context) (t : Term) → Keeps rs (head_step_body c d g t) (Stepped d g t)
+  unfolding head_step_body
+  head_step_sound d g t =
+      bind (S.reduce d g t) λ o rs₁ _ h₁.
+      cases o
+      (λ step q. let h : At step.row (equation d g t step.term step.type) rs₁ = along (λ o. Stepped d g t o rs₁) q h₁ in giving (some step) λ _ e. lift e h)
+      (λ _. at_head_sound d g t)
+
+  -- steps that say what those of reduce say
+  abbrev Steps : ℕ → Context → (Term → M (Option Step)) → Type 0
+  Steps d g step = (rs : List Row) (t : Term) → Keeps rs (step t) (Stepped d g t)
+
+  rounds_sound : {rs : List Row} (left d : ℕ) (g : Context) (step : Term → M (Option Step)) → Steps d g step → (t ty current : Term) (x : ℕ) → At x (equation d g t current ty) rs → Keeps rs (rounds left c step d g t ty current x) (λ o. At o.1 (equation d g t o.0 ty))
+  unfolding rounds
+  rounds_sound ℕ.zero d g step steps t ty current x hx = bind (steps _ current) λ o _ e₁ _. cases o (λ _ _. refusing (lit< tt)) (λ _. giving (current, x) λ _ e. lift e (lift e₁ hx))
+  rounds_sound (ℕ.suc left) d g step steps t ty current x hx =
+      bind (steps _ current) λ o rs₁ e₁ h₁.
+      cases o
+      (λ found q. branch (quote? (quote found.type) (quote ty))
+      (λ q'. bind (S.check d g found.term ty) λ _ _ e₂ _.
+      let h : At found.row (equation d g current found.term found.type) rs₁ = along (λ o. Stepped d g current o rs₁) q h₁ in
+      bind (emitted (lift e₂ (lift e₁ hx) also lift e₂ (rw q' at h) also none_cited) by_eq_trans) λ y _ _ h₃. rounds_sound left d g step steps t ty found.term y h₃)
       (λ _. refusing (lit< tt)))
       (λ _. giving (current, x) λ _ e. lift e (lift e₁ hx))
 
+  normal_by_sound : {rs : List Row} (d : ℕ) (g : Context) (step : Term → M (Option Step)) → Steps d g step → (t ty : Term) → Keeps rs (normal_by c step d g t ty) (λ o. At o.1 (equation d g t o.0 ty))
+  unfolding normal_by
+  normal_by_sound d g step steps t ty = bind (S.check d g t ty) λ _ _ _ h₁. bind (emitted (h₁ also none_cited) by_eq_refl) λ x _ _ h₂. rounds_sound 32 d g step steps t ty t x h₂
+
   pub normalize_sound : {rs : List Row} (d : ℕ) (g : Context) (t ty : Term) → Keeps rs (normalize_body c d g t ty) (λ o. At o.1 (equation d g t o.0 ty))
   unfolding normalize_body
-  normalize_sound d g t ty = bind (S.check d g t ty) λ _ _ _ h₁. bind (emitted (h₁ also none_cited) by_eq_refl) λ x _ _ h₂. rounds_sound 32 d g t ty t x h₂
+  normalize_sound d g t ty = normal_by_sound d g (c.reduce d g) (λ _ t. S.reduce d g t) t ty
+
+  pub head_normalize_sound : {rs : List Row} (d : ℕ) (g : Context) (t ty : Term) → Keeps rs (head_normalize_body c d g t ty) (λ o. At o.1 (equation d g t o.0 ty))
+  unfolding head_normalize_body
+  head_normalize_sound d g t ty = normal_by_sound d g (c.head_step d g) (λ _ t. S.head_step d g t) t ty
 
   pub equal_sound : {rs : List Row} (d : ℕ) (g : Context) (a b ty : Term) → Keeps rs (equal_body c d g a b ty) (λ x. At x (equation d g a b ty))
   unfolding equal_body

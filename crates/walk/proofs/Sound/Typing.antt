@@ -57,7 +57,7 @@ module _ (c : Callees) (S : Sound c) where
   as_parts_sound k parts made is refusal n d g t =
       bind (headed_sound k d g t) λ o _ _ h. cases (parts o.0) (λ of q. giving (of, o.1) λ _ e. lift e (rw (is o.0 of q) at h)) (λ _. refusing n)
 
-  as_pi_sound : {rs : List Row} (d : ℕ) (g : Context) (f : Term) → Keeps rs (as_pi c d g f) (λ o. At o.1 (typing d g f (Pi o.0.0 o.0.1)))
+  pub as_pi_sound : {rs : List Row} (d : ℕ) (g : Context) (f : Term) → Keeps rs (as_pi c d g f) (λ o. At o.1 (typing d g f (Pi o.0.0 o.0.1)))
   as_pi_sound = as_parts_sound k_pi pi_parts (λ m. Pi m.0 m.1) pi_is Refusal.no_function (lit< tt)
 
   pub as_path_sound : {rs : List Row} (d : ℕ) (g : Context) (p : Term) → Keeps rs (as_path c d g p) (λ o. At o.1 (typing d g p (Path o.0.0 o.0.1 o.0.2)))

@@ -37,7 +37,7 @@ pub record Moved (r : Interval) (op : Op) (out : Interval × List ℕ) (rs : Lis
   pub cited : Cites rs out.1 premises
   pub how : Inside r op out.0 premises
 
--- what a step of reduce says
+-- what a step of reduce or of head_step says
 abbrev pub Stepped : ℕ → Context → Term → Option Step → List Row → Type 0
 Stepped d g t none rs = Unit {0}
 Stepped d g t (some step) rs = At step.row (equation d g t step.term step.type) rs
@@ -63,6 +63,8 @@ pub record Sound (c : Callees) : Type 0 where
   pub normalize : {rs : List Row} (d : ℕ) (g : Context) (t ty : Term) → Keeps rs (c.normalize d g t ty) (λ o. At o.1 (equation d g t o.0 ty))
   pub equal : {rs : List Row} (d : ℕ) (g : Context) (a b ty : Term) → Keeps rs (c.equal d g a b ty) (λ x. At x (equation d g a b ty))
   pub reduce : {rs : List Row} (d : ℕ) (g : Context) (t : Term) → Keeps rs (c.reduce d g t) (Stepped d g t)
+  pub head_normalize : {rs : List Row} (d : ℕ) (g : Context) (t ty : Term) → Keeps rs (c.head_normalize d g t ty) (λ o. At o.1 (equation d g t o.0 ty))
+  pub head_step : {rs : List Row} (d : ℕ) (g : Context) (t : Term) → Keeps rs (c.head_step d g t) (Stepped d g t)
   pub lookup : {rs : List Row} (g : Context) (n : ℕ) → Keeps rs (c.lookup g n) (λ o. At o.1 (lookup (quotes g) n (quote o.0)))
   pub dshiftctx : {rs : List Row} (g : Context) → Keeps rs (c.dshiftctx g) (λ o. At o.1 (dshiftctx (quotes g) 0 (quotes o.0)))
   pub transform : {rs : List Row} (t : Term) (op : Op) → Keeps rs (c.transform t op) (λ o. At o.1 (transformed t op o.0))

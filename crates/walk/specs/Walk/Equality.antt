@@ -1,4 +1,5 @@
--- normalize, equal, reduce: producer.rs, `normalize`, `equal` and `reduce`; pairs: sigma.rs.
+-- normalize, equal, reduce: producer.rs, `normalize`, `equal` and `reduce`; pairs: sigma.rs; head_normalize, head_step: congruence.rs, of an app
+-- and of a papp, with no face.
 use Rattle.std.specs.Prelude.{ℕ, List, [], ◌∷◌, ◌++◌}
 use Rattle.std.proofs.Math.Option.{Option, none, some}
 use Rattle.walk.specs.Syntax.{Interval, I0, I1, Dim, Neg, Meet, Join, Term, Universe, Var, Nat, Zero, Pi, Lam, App, Path, PathLam, PathApp, Sigma, Pair, Fst, Snd, Context, Cons, quote, quotes, quote?}
@@ -7,7 +8,7 @@ use Rattle.walk.specs.Rule as R
 use Rattle.walk.specs.Refusal as Refusal
 use Rattle.walk.specs.State.{M, ◌>>=◌, pure, refuse, choose◌then◌else◌, from◌get◌or◌, emit}
 use Rattle.walk.specs.Walk.Reference.{Subst, DSubst, End, E0, E1, Step, Callees}
-use Rattle.walk.specs.Walk.Typing.{lam_parts, plam_parts, pair_parts, as_path, as_sigma}
+use Rattle.walk.specs.Walk.Typing.{lam_parts, plam_parts, pair_parts, as_pi, as_path, as_sigma}
 
 abbrev pub equation : ℕ → Context → Term → Term → Term → Judgment
 equation d g a b ty = eq d (quotes g) (quote a) (quote b) (quote ty)
@@ -115,28 +116,98 @@ reduce_body c d g (Pair ty a b) = pure none
 reduce_body c d g (Fst p) = from pair_parts p get (λ of. fst_beta c d g p of.1) or pure none
 reduce_body c d g (Snd p) = from pair_parts p get (λ of. snd_beta c d g p of.2) or pure none
 
--- reduce at the root while that goes, at most `left` times
-unfoldable pub rounds : ℕ → Callees → ℕ → Context → Term → Term → Term → ℕ → M (Term × ℕ)
-rounds ℕ.zero c d g t ty current evidence = do
-  next ← c.reduce d g current
-  from next get (λ step. refuse Refusal.reductions) or pure (current, evidence)
-rounds (ℕ.suc left) c d g t ty current evidence = do
-  next ← c.reduce d g current
+-- the head of an app or a papp, of the type ty: what it goes to, with the row that says so; refused at once where that has another type
+unfoldable pub head_goes : Callees → ℕ → Context → Term → Term → M (Option (Term × ℕ))
+head_goes c d g f ty = do
+  next ← c.head_step d g f
   from next
       get (λ step.
       choose quote? (quote step.type) (quote ty)
+      then pure (some (step.term, step.row))
+      else refuse Refusal.step_type)
+      or pure none
+
+-- t goes to out, which is t but for its head, by the rows refs; both have the type ty
+unfoldable pub congruent : Callees → ℕ → Context → Term → Term → Term → List ℕ → ℕ → M (Option Step)
+congruent c d g t out ty refs rule = do
+  left ← c.check d g t ty
+  right ← c.check d g out ty
+  row ← emit rule (refs ++ left ∷ right ∷ []) (equation d g t out ty)
+  pure (some (record { term = out; type = ty; row = row }))
+
+unfoldable pub app_cong : Callees → ℕ → Context → Term → Term → M (Option Step)
+app_cong c d g f a = do
+  (pi, _) ← as_pi c d g f
+  next ← head_goes c d g f (Pi pi.0 pi.1)
+  from next
+      get (λ head. do
+        arg ← c.check d g a pi.0
+        (ty, sub) ← c.transform pi.1 (Subst 0 a)
+        congruent c d g (App f a) (App head.0 a) ty (head.1 ∷ arg ∷ sub ∷ []) R.eq_app_cong)
+      or pure none
+
+unfoldable pub papp_cong : Callees → ℕ → Context → Term → Interval → M (Option Step)
+papp_cong c d g p r = do
+  (path, _) ← as_path c d g p
+  next ← head_goes c d g p (Path path.0 path.1 path.2)
+  from next
+      get (λ head. do
+        dim ← c.interval d r
+        (ty, sub) ← c.transform path.0 (DSubst 0 r)
+        congruent c d g (PathApp p r) (PathApp head.0 r) ty (head.1 ∷ dim ∷ sub ∷ []) R.eq_papp_cong)
+      or pure none
+
+-- a step at the head: of an app and a papp alone, which have one
+unfoldable pub at_head : Callees → ℕ → Context → Term → M (Option Step)
+at_head c d g (Universe l) = pure none
+at_head c d g (Var n) = pure none
+at_head c d g Nat = pure none
+at_head c d g Zero = pure none
+at_head c d g (Pi a b) = pure none
+at_head c d g (Lam a b) = pure none
+at_head c d g (App f a) = app_cong c d g f a
+at_head c d g (Path a b e) = pure none
+at_head c d g (PathLam a b) = pure none
+at_head c d g (PathApp p r) = papp_cong c d g p r
+at_head c d g (Sigma a b) = pure none
+at_head c d g (Pair ty a b) = pure none
+at_head c d g (Fst p) = pure none
+at_head c d g (Snd p) = pure none
+
+-- at the root, and where that gives nothing at the head
+unfoldable pub head_step_body : Callees → ℕ → Context → Term → M (Option Step)
+head_step_body c d g t = do
+  next ← c.reduce d g t
+  from next get (λ step. pure (some step)) or at_head c d g t
+
+-- steps while these go, at most `left`
+unfoldable pub rounds : ℕ → Callees → (Term → M (Option Step)) → ℕ → Context → Term → Term → Term → ℕ → M (Term × ℕ)
+rounds ℕ.zero c step d g t ty current evidence = do
+  next ← step current
+  from next get (λ found. refuse Refusal.reductions) or pure (current, evidence)
+rounds (ℕ.suc left) c step d g t ty current evidence = do
+  next ← step current
+  from next
+      get (λ found.
+      choose quote? (quote found.type) (quote ty)
       then (do
-        _ ← c.check d g step.term ty
-        evidence' ← emit R.eq_trans (evidence ∷ step.row ∷ []) (equation d g t step.term ty)
-        rounds left c d g t ty step.term evidence')
+        _ ← c.check d g found.term ty
+        evidence' ← emit R.eq_trans (evidence ∷ found.row ∷ []) (equation d g t found.term ty)
+        rounds left c step d g t ty found.term evidence')
       else refuse Refusal.step_type)
       or pure (current, evidence)
 
-unfoldable pub normalize_body : Callees → ℕ → Context → Term → Term → M (Term × ℕ)
-normalize_body c d g t ty = do
+unfoldable pub normal_by : Callees → (Term → M (Option Step)) → ℕ → Context → Term → Term → M (Term × ℕ)
+normal_by c step d g t ty = do
   typed ← c.check d g t ty
   evidence ← emit R.eq_refl (typed ∷ []) (equation d g t t ty)
-  rounds 32 c d g t ty t evidence
+  rounds 32 c step d g t ty t evidence
+
+unfoldable pub normalize_body : Callees → ℕ → Context → Term → Term → M (Term × ℕ)
+normalize_body c d g t ty = normal_by c (c.reduce d g) d g t ty
+
+unfoldable pub head_normalize_body : Callees → ℕ → Context → Term → Term → M (Term × ℕ)
+head_normalize_body c d g t ty = normal_by c (c.head_step d g) d g t ty
 
 unfoldable pub equal_body : Callees → ℕ → Context → Term → Term → Term → M ℕ
 equal_body c d g a b ty = do

@@ -1,4 +1,4 @@
--- The operations of the transforms, and the seventeen reference functions as one record: each body of the walk is a
+-- The operations of the transforms, and the nineteen reference functions as one record: each body of the walk is a
 -- definition over the functions that it calls.
 use Rattle.std.specs.Prelude.{ℕ, List, [], Bool}
 use Rattle.std.proofs.Math.Option.{Option}
@@ -34,7 +34,7 @@ pub data End : Type 0 where
   E1 : End
   deriving Discrete as EndDiscrete
 
--- A step of `reduce`: the term, its type, and the row of the equation. (The source has no type here: its `normalize` reads it from the row,
+-- A step of `reduce` or of `head_step`: the term, its type, and the row of the equation. (The source has no type here: its `normalize` reads it from the row,
 -- where it stands by quote. A known row has the same judgment, so it is the same.)
 pub record Step : Type 0 where
   pub term : Term
@@ -47,7 +47,7 @@ pub record Found : Type 0 where
   pub refs : List ℕ
   pub rule : ℕ
 
--- The seventeen reference functions, and how they make the number after n: `more n`.
+-- The nineteen reference functions, and how they make the number after n: `more n`.
 pub record Callees : Type 0 where
   pub ctx : ℕ → Context → M ℕ
   pub infer : ℕ → Context → Term → M (Term × ℕ)
@@ -57,6 +57,8 @@ pub record Callees : Type 0 where
   pub normalize : ℕ → Context → Term → Term → M (Term × ℕ)
   pub equal : ℕ → Context → Term → Term → Term → M ℕ
   pub reduce : ℕ → Context → Term → M (Option Step)
+  pub head_normalize : ℕ → Context → Term → Term → M (Term × ℕ)
+  pub head_step : ℕ → Context → Term → M (Option Step)
   pub lookup : Context → ℕ → M (Term × ℕ)
   pub dshiftctx : Context → M (Context × ℕ)
   pub transform : Term → Op → M (Term × ℕ)

@@ -2,7 +2,7 @@
 use Rattle.std.proofs.Common.{arith, refl}
 use borrow.Author.Tests.{eq-eqb, le-ltb, lt-ltb, ne_eqb}
 use Rattle.ast.specs.Words.{up}
-use Rattle.producer.specs.Equality.{along, at_end, at_ends, at_val, beta, equal_body, equal_normal, fst_beta, normalize_body, pbeta, reduce_body, reduce_papp, round, snd_beta}
+use Rattle.producer.specs.Equality.{along, at_end, at_ends, at_val, beta, equal_body, equal_normal, fst_beta, normal_by, normalize_body, pbeta, reduce_body, reduce_papp, round, snd_beta}
 use Rattle.producer.specs.Machine.{known_or, known_row}
 use Rattle.producer.specs.Typing.{as_path, as_pi, as_sigma, check_body, converted, ctx_body, ctx_cons, expose_body, exposed, find, find_app, find_atom, find_binder, find_compound, find_fst, find_lam, find_pair, find_papp, find_path, find_plam, find_snd, find_var, headed, infer_body, new_infer, pair_typed, path_ends, plam_ends, retyped, universe_body}
 use Rattle.producer.proofs.At as law
@@ -429,19 +429,19 @@ unfolding reduce_papp steps stated
 line-returns t c = rw (← c.in_ok-s1.ensures, c.in-Some.is, ← c.val.ensures)
 
 pub normalize-returns-then-left-eq0 : goal.normalize-returns-then-left-eq0
-unfolding normalize_body steps stated
+unfolding normalize_body normal_by steps stated
 normalize-returns-then-left-eq0 t c = rw (law.normalize_none _ _ _ _ _ _ c.if-left-eq0.true, c.refused.ensures)
 
 pub normalize-returns-in_err-s1 : goal.normalize-returns-in_err-s1
-unfolding normalize_body steps stated
+unfolding normalize_body normal_by steps stated
 normalize-returns-in_err-s1 t c = rw (law.normalize_in _ _ _ _ _ _ c.if-left-eq0.false, ← c.deeper-s0.ensures, law.residual _ _ c.from_residual.ensures.1, ← c.in_err-s1.ensures)
 
 pub normalize-returns-in_err-s2 : goal.normalize-returns-in_err-s2
-unfolding normalize_body steps stated
+unfolding normalize_body normal_by steps stated
 normalize-returns-in_err-s2 t c = rw (law.normalize_in _ _ _ _ _ _ c.if-left-eq0.false, ← c.deeper-s0.ensures, ← c.in_ok-s1.ensures, ← c.cite.ensures, law.residual _ _ c.from_residual-in_err-s2.ensures.1, ← c.in_err-s2.ensures)
 
 pub normalize-returns : goal.normalize-returns
-unfolding normalize_body steps stated
+unfolding normalize_body normal_by steps stated
 normalize-returns t c = rw (law.normalize_in _ _ _ _ _ _ c.if-left-eq0.false, ← c.deeper-s0.ensures, ← c.in_ok-s1.ensures, ← c.cite.ensures, ← c.in_ok-s2.ensures, ← c.turns.ensures)
 
 pub pair-returns-in_default : goal.pair-returns-in_default
@@ -807,27 +807,27 @@ turn-returns t c = rw (← c.in_ok-s1.ensures, c.in-Some.is, ← c.same_quote.en
 
 pub turns-returns-in_err-s1 : goal.turns-returns-in_err-s1
 unfolding steps stated
-turns-returns-in_err-s1 t c = rw (c.loop.invariant.1, law.rounds_turn _ _ _ _ _ _ _ _ _ c.loop-test.true, law.residual _ _ c.from_residual.ensures.1, ← c.in_err-s1.ensures)
+turns-returns-in_err-s1 t c = rw (c.loop.invariant.1, law.rounds_turn _ _ _ _ _ _ _ _ _ _ c.loop-test.true, law.residual _ _ c.from_residual.ensures.1, ← c.in_err-s1.ensures)
 
 pub turns-returns-in_default : goal.turns-returns-in_default
 unfolding steps stated
-turns-returns-in_default t c = rw (c.loop.invariant.1, law.rounds_turn _ _ _ _ _ _ _ _ _ c.loop-test.true, ← c.in_ok-s1.ensures, c.in_default.is)
+turns-returns-in_default t c = rw (c.loop.invariant.1, law.rounds_turn _ _ _ _ _ _ _ _ _ _ c.loop-test.true, ← c.in_ok-s1.ensures, c.in_default.is)
 
 pub turns-loop-preserved : goal.turns-loop-preserved
 unfolding steps stated
-turns-loop-preserved t c = (omega arith, rw (c.loop.invariant.1, law.rounds_turn _ _ _ _ _ _ _ _ _ c.loop-test.true, ← c.in_ok-s1.ensures, c.in-Some.is))
+turns-loop-preserved t c = (omega arith, rw (c.loop.invariant.1, law.rounds_turn _ _ _ _ _ _ _ _ _ _ c.loop-test.true, ← c.in_ok-s1.ensures, c.in-Some.is))
 
 pub turns-returns-in_err-s1-2 : goal.turns-returns-in_err-s1-2
 unfolding steps stated
-turns-returns-in_err-s1-2 t c = rw (c.loop.invariant.1, law.rounds_over _ _ _ _ _ _ _ _ _ c.loop-test.false, law.residual _ _ c.from_residual-in_err-s1-2.ensures.1, ← c.in_err-s1-2.ensures)
+turns-returns-in_err-s1-2 t c = rw (c.loop.invariant.1, law.rounds_over _ _ _ _ _ _ _ _ _ _ c.loop-test.false, law.residual _ _ c.from_residual-in_err-s1-2.ensures.1, ← c.in_err-s1-2.ensures)
 
 pub turns-returns-in-Some-further : goal.turns-returns-in-Some-further
 unfolding steps stated
-turns-returns-in-Some-further t c = rw (c.loop.invariant.1, law.rounds_over _ _ _ _ _ _ _ _ _ c.loop-test.false, ← c.in_ok-s1-2.ensures, c.in-Some-further.is, c.refused.ensures)
+turns-returns-in-Some-further t c = rw (c.loop.invariant.1, law.rounds_over _ _ _ _ _ _ _ _ _ _ c.loop-test.false, ← c.in_ok-s1-2.ensures, c.in-Some-further.is, c.refused.ensures)
 
 pub turns-returns-in-None : goal.turns-returns-in-None
 unfolding steps stated
-turns-returns-in-None t c = rw (c.loop.invariant.1, law.rounds_over _ _ _ _ _ _ _ _ _ c.loop-test.false, ← c.in_ok-s1-2.ensures, c.in-None.is)
+turns-returns-in-None t c = rw (c.loop.invariant.1, law.rounds_over _ _ _ _ _ _ _ _ _ _ c.loop-test.false, ← c.in_ok-s1-2.ensures, c.in-None.is)
 
 pub universe-returns-then-left-eq0 : goal.universe-returns-then-left-eq0
 unfolding universe_body steps stated

@@ -1,5 +1,6 @@
 -- The nesting left falls at each function that is entered; between two entries, the second number of a member does.
 use Rattle.std.proofs.Common.{◌≡◌, ◌*◌, ◌+◌, ◌-◌, ◌≤◌}
+use Rattle.std.specs.Prelude.{false}
 use Rattle.producer.specs.Calls.{callees}
 use Rattle.producer.specs.Equality.{rounds}
 use Rattle.producer.specs.Machine.{machine}
@@ -100,4 +101,4 @@ decreases-var l = 4 * l.left + 1
 
 abbrev pub invariant-turns-loop : goal.invariant-turns-loop
 invariant-turns-loop l =
-    (l.counter ≤ 32) × (rounds 32 (callees l.left) l.d l.g l.t l.ty l.t l.evidence (machine l.fn.rows l.fn.cells l.fn.self) ≡ rounds (32 - l.counter) (callees l.left) l.d l.g l.t l.ty l.current l.row (machine l.rows l.cells l.s))
+    (l.counter ≤ 32) × (rounds 32 (callees l.left) false l.d l.g l.t l.ty l.t l.evidence (machine l.fn.rows l.fn.cells l.fn.self) ≡ rounds (32 - l.counter) (callees l.left) false l.d l.g l.t l.ty l.current l.row (machine l.rows l.cells l.s))

@@ -54,6 +54,7 @@ impl Player {
             2 => p.infer(d, g, &t[0]).map(shown),
             3 => p.check(d, g, &t[0], &t[1]).map(bare),
             4 => p.normalize(d, g, &t[0], &t[1]).map(shown),
+            7 => p.head_normalize(d, g, &t[0], &t[1]).map(shown),
             _ => p.equal(d, g, &t[0], &t[1], &t[2]).map(bare),
         }
     }

@@ -1,6 +1,6 @@
-//! The sixteen reference functions, and `endpoint`, under their own names: each notes that it is
-//! entered, counts its arguments from left to right, and calls the body that
-//! the source gives it. Results that no row names are counted on return.
+//! The sixteen reference functions, `endpoint`, `head_normalize` and `head_step`, under
+//! their own names: each notes that it is entered, counts its arguments from left to
+//! right, and calls the body that the source gives it. Results that no row names are counted on return.
 use super::endpoints::End;
 use super::{Interval, Op, Producer, Result, Term};
 use crate::cells::Cells;
@@ -74,8 +74,35 @@ impl Producer {
     ) -> Result<(Term, usize)> {
         self.watched(
             |c| scope(c, g, &[t, ty]),
-            |p| p.normalize_source(d, g, t, ty),
+            |p| p.normalize_source(d, g, t, ty, false),
             |c, (out, _)| term(c, out),
+        )
+    }
+
+    pub(super) fn head_normalize(
+        &mut self,
+        d: usize,
+        g: &[Term],
+        t: &Term,
+        ty: &Term,
+    ) -> Result<(Term, usize)> {
+        self.watched(
+            |c| scope(c, g, &[t, ty]),
+            |p| p.normalize_source(d, g, t, ty, true),
+            |c, (out, _)| term(c, out),
+        )
+    }
+
+    pub(super) fn head_step(
+        &mut self,
+        d: usize,
+        g: &[Term],
+        t: &Term,
+    ) -> Result<Option<(Term, usize)>> {
+        self.watched(
+            |c| scope(c, g, &[t]),
+            |p| p.head_step_source(d, g, t),
+            |c, out| out.as_ref().map_or(Ok(()), |(out, _)| term(c, out)),
         )
     }
 
