@@ -19,7 +19,6 @@ use ast::refusals::Refusal;
 impl State {
     // The term with its root and its heads reduced while that goes, and the row of the equation. It is `normalize` written again, which so
     // keeps its instructions.
-    #[tactic(auto, unfolding(crate::specs::Heads::head_normalize_body, crate::specs::Equality::normal_by, crate::proofs::Steps::steps, crate::proofs::Steps::stated))]
     pub fn head_normalize(
         self,
         left: u32,
