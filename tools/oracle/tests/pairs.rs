@@ -5,8 +5,8 @@ use oracle::{batch, play, Options, Slices};
 use reference::{on_large_stack, Level};
 use std::collections::BTreeSet;
 
-/// With code 6, which is read as a code wherever one is due.
-const LEVEL: u8 = 3;
+/// With code 6, which is read as a code wherever one is due, and long endpoints.
+const LEVEL: u8 = 5;
 const WORK: u64 = 1_000_000;
 const RUNS: u64 = 2_000;
 
