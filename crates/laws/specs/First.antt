@@ -124,3 +124,50 @@ walks_same (ℕ.suc n) d g t ty u s s₁ s₂ o e f =
     let p = step_same n d g t r.between x.between y.between step y.value (rw q at x.at) y.at in
     let z = term_of x.value x.value step u x.between s₁ q x.left in
     rw z at (term_too y.value step o y.between s₂ p y.left)
+
+-- what is put together of its two parts
+joined : {A B : Type 0} (m : M A) (f : A → M B) (s : State) (a : A) (s' : State) (o : Outcome B) → m s ≡ done a s' → f a s' ≡ o → (m >>= f) s ≡ o
+unfolding ◌>>=◌ go_on
+joined m f s a s' o e k = rw e k
+
+-- a walk that is not refused was not refused as far as its first step
+record Begun (n : ℕ) (d : ℕ) (g : Context) (t ty : Term) (s : State) : Type 0 where
+  term : Option Term
+  last : State
+  walked : first_walk n true d g t ty s ≡ done term last
+
+abbrev from_step : Option Step → Option Term
+from_step (some step) = some step.term
+from_step none = none
+
+ends : (next : Option Step) (s : State) → (from next get (λ found. pure (some found.term)) or pure none) s ≡ done (from_step next) s
+unfolding from◌get◌or◌ pure
+ends (some step) s = refl
+ends none s = refl
+
+begun : (n d : ℕ) (g : Context) (t ty : Term) (s : State) (v : Term × ℕ) (s' : State) → whole n true d g t ty s ≡ done v s' → Begun n d g t ty s
+unfolding first_walk first_by callees callees_by entered none_left refuse enter head_normalize_body normal_by rounds
+begun ℕ.zero d g t ty s v s' e = let z : ◌≡◌ {A = ℕ} 0 1 = cc in absurd (omega arith)
+begun (ℕ.suc n) d g t ty s v s' e =
+    let a = share (note n) _ _ s v s' v s' e e in
+    let b = share (count_all (of_context g ++ of_term t ++ of_term ty)) _ _ a.between v s' v s' a.left a.left in
+    let k = share ((callees n).check d g t ty) _ _ b.between v s' v s' b.left b.left in
+    let r = share (emit R.eq_refl (k.value ∷ []) (equation d g t t ty)) _ _ k.between v s' v s' k.left k.left in
+    let x = share ((callees n).head_step d g t) _ _ r.between v s' v s' r.left r.left in
+    record {
+      term = from_step x.value;
+      last = x.between;
+      walked = joined (note n) _ s a.value a.between _ a.at (joined (count_all (of_context g ++ of_term t ++ of_term ty)) _ a.between b.value b.between _ b.at (joined ((callees n).check d g t ty) _ b.between k.value k.between _ k.at (joined (emit R.eq_refl (k.value ∷ []) (equation d g t t ty)) _ k.between r.value r.between _ r.at (joined ((callees n).head_step d g t) _ r.between x.value x.between _ x.at (ends x.value x.between)))));
+    }
+
+-- Sent with the same bytes after the code at the same spot of a run: where code 4 reduces and code 7 is not refused, code 7 reduces, and to
+-- the same first term. (That code 4 is not refused later is not needed.)
+pub same_first : (call : Call) (s : State) (u : Term) → Accepted true call s → first false call s ≡ some u → first true call s ≡ some u
+same_first call s u h e = go (first_walk s.limit false call.dims (scope_of Nil call.types) (nth call.terms 0) (nth call.terms 1) (with_deepest 0 s)) refl e
+  where
+    go : (o : Outcome (Option Term)) → first_walk s.limit false call.dims (scope_of Nil call.types) (nth call.terms 0) (nth call.terms 1) (with_deepest 0 s) ≡ o → answered o ≡ some u → first true call s ≡ some u
+    go (refused n s') q e = let z : ◌≡◌ {A = ℕ} 0 1 = cc in absurd (omega arith)
+    go (done o s') q e =
+        let b = begun s.limit call.dims (scope_of Nil call.types) (nth call.terms 0) (nth call.terms 1) (with_deepest 0 s) h.value h.last h.walked in
+        let p = walks_same s.limit call.dims (scope_of Nil call.types) (nth call.terms 0) (nth call.terms 1) u (with_deepest 0 s) s' b.last b.term (rw e at q) b.walked in
+        rw b.walked p
