@@ -14,3 +14,4 @@ pub mod Inside
 pub mod Runs
 pub mod Laws
 pub mod Examples
+pub mod First

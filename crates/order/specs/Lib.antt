@@ -8,6 +8,7 @@ pub mod Bound
 pub mod Sent
 pub mod Never
 pub mod Later
+pub mod Deeper
 pub mod Refusals
 pub mod Spot
 pub mod Algebra
