@@ -66,7 +66,7 @@ def main():
             bad.append(path)
             if not check:
                 os.makedirs(os.path.dirname(path), exist_ok=True)
-        with open(path, 'w', encoding='utf-8') as f:
+                with open(path, 'w', encoding='utf-8') as f:
                     f.write(new)
     for path in bad:
         print('%s %s' % ('not as tools/written.py writes it:' if check else 'written:', path))
