@@ -74,6 +74,6 @@ fault 'types after one that is refused are skipped' run/src/entry.rt \
 fault "the types' nodes are added up" syntax/src/limits.rt \
     '            Ok(call) => self.type_fitting(ty, call.head, call.nodes),' \
     '            Ok(call) => self.type_fitting(ty, call.head, call.nodes + (ty - call.next - 1)),' \
-    '--many 1 2000' edges
+    '--many seeds' edges
 [ "$failed" -eq 0 ] && echo "every fault is caught"
 exit "$failed"

@@ -31,15 +31,13 @@ pub fn shrunk(mut case: Case, differs: &mut dyn FnMut(&Case) -> bool) -> Case {
 /// Tries each smaller neighbour in turn, and goes on from the first that holds.
 fn pass(case: &mut Case, holds: &mut dyn FnMut(&Case) -> bool) {
     let mut at = 0;
-    loop {
-        let smaller = neighbours(&case.bytes);
-        let Some(bytes) = smaller.get(at) else {
-            return;
-        };
+    let mut smaller = neighbours(&case.bytes);
+    while let Some(bytes) = smaller.get(at) {
         let next = Case { slices: case.slices, bytes: bytes.clone() };
         let size = |bytes: &[u8]| (bytes.len(), bytes.iter().map(|b| u64::from(*b)).sum::<u64>());
         if size(&next.bytes) < size(&case.bytes) && holds(&next) {
             *case = next;
+            smaller = neighbours(&case.bytes);
         } else {
             at += 1;
         }

@@ -129,6 +129,8 @@ pub fn cases() -> Vec<Case> {
     out.push(Case::new(FULL, 4096, &[many(&s, &tree(11), &types)]));
     out.push(Case::new(LISTING, 4096, &[many(&s, &tree(12), &types)]));
     out.push(longest());
+    // The same types where the walk of those that pass ends at once.
+    out.push(Case::new(LISTING, 1, &[many(&s, &tree(11), &types)]));
     out
 }
 
