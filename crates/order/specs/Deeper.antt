@@ -437,7 +437,6 @@ module _ (c c' : Callees) (L : AllAlike c c') where
   unfolding equal_body
   equal_alike d g a b ty = search (combinators, L.check, L.normalize) depth 10
 
-
 none_alike : (c : Callees) → ((n : ℕ) → Alike (one_more n) (c.more n)) → AllAlike (none_left one_more) c
 unfolding none_left refuse
 none_alike c h = record {
