@@ -46,13 +46,13 @@ fn headers(rt: &impl Print) -> io::Result<()> {
     run(rt, "limit 1", &[1, 0])?;
     run(rt, "limit 4096", &[0, 16])?;
     run(rt, "limit 4097", &[1, 16])?;
-    run(rt, "limit 0, then no code", &[0, 0, 7])
+    run(rt, "limit 0, then no code", &[0, 0, 8])
 }
 
 // The place is the leftmost byte that may not stand there, or the length.
 fn places(rt: &impl Print) -> io::Result<()> {
     run(rt, "check zero at nat", &[100, 0, 3, 0, 0, 4, 3])?;
-    run(rt, "no code", &[100, 0, 7, 0, 0, 4, 3])?;
+    run(rt, "no code", &[100, 0, 8, 0, 0, 4, 3])?;
     run(rt, "code alone", &[100, 0, 3])?;
     run(rt, "no length", &[100, 0, 3, 0])?;
     run(rt, "no term", &[100, 0, 3, 0, 0])?;
