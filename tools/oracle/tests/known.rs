@@ -68,5 +68,5 @@ fn a_repeated_call() {
 
 #[test]
 fn a_refused_run() {
-    assert_eq!(listed(&[100, 0, 7]), "number place\n3 2\n");
+    assert_eq!(listed(&[100, 0, 8]), "number place\n3 2\n");
 }
