@@ -346,6 +346,9 @@ def long_ends():
     typed_first = [call(2, 0, [NAT, p], [deep_end]), call(4, 0, [NAT, p], [deep_end, NAT])]
     case('end-limit-12', run(12, *typed_first))
     case('end-limit-13', run(13, *typed_first))
+    say('A dim is no endpoint, and is entered all the same: once the term is typed, ten negs and their dim are the deepest.')
+    no_end = papp(v(0), times(10, neg, dim(0)))
+    case('no-end-deepest', run(100, call(2, 1, [NAT, p], [no_end]), call(4, 1, [NAT, p], [no_end, NAT])))
     say('The rows of an end, of its equation and none of them fit; the end has another type at the interval as it is written.')
     for rows in (20, 21, 23, 24):
         case('end-rows-%d' % rows, run(100, call(4, 0, [path(NAT, ZERO, ZERO)], [papp(v(0), neg(I1)), NAT])), (24 * rows, 16384, 16384))
@@ -456,6 +459,7 @@ SAID = {
     'end-31-deep': ((0, 0, 1, ANY, ANY, 0), (0, ANY, '(v 1)', ANY)),
     'end-limit-12': ((0, 0, 2, ANY, ANY, 0), (0, ANY, 'nat', ANY), (19, '-', '-', 12)),
     'end-limit-13': ((0, 0, 2, ANY, ANY, 0), (0, ANY, 'nat', ANY), (0, ANY, '(v 1)', 13)),
+    'no-end-deepest': ((0, 0, 2, ANY, ANY, 0), (0, ANY, 'nat', ANY), (0, ANY, ANY, 13)),
     'end-rows-20': ((0, 0, 1, 20, ANY, 0), (18, '-', '-', ANY)),
     'end-rows-21': ((0, 0, 1, 21, ANY, 0), (18, '-', '-', ANY)),
     'end-rows-23': ((0, 0, 1, 23, ANY, 0), (18, '-', '-', ANY)),
