@@ -12,8 +12,7 @@
 
 use ran::Ran;
 use std::alloc::{AllocError, Global};
-use std::io::{self, ErrorKind};
-use std::str::FromStr;
+use std::io;
 use text::{Calls, Piece, Table, Words};
 
 // The word that slices hold before a run.
@@ -22,8 +21,16 @@ const FILL: u32 = 2863311530;
 // How many words each table has past those that are lent.
 const PAST: usize = 8192;
 
-// More calls than any run has.
+// More calls than any run has, and the words of their answers.
 const CALLS: usize = 49930;
+
+const ANSWERS: u32 = 199720;
+
+// How many bytes of cases are read.
+const CASES: usize = 65536;
+
+// How many bytes of a case's run are made: a run that is too long has more than 65,536.
+const BYTES: usize = 65540;
 
 // The words of each slice that a case lends.
 #[derive(Clone, Copy)]
@@ -31,6 +38,18 @@ struct Lent {
     rows: u32,
     cells: u32,
     answers: u32,
+}
+
+impl Lent {
+    // Whether a case may lend so many: few rows and the answers of any run, or all rows that a run has and few answers. Of a case
+    // that lends more the name alone is printed.
+    fn may_be(self) -> bool {
+        if self.rows <= 24576 {
+            self.cells <= 16384 && self.answers <= ANSWERS
+        } else {
+            self.rows <= 1200048 && self.cells <= 305152 && self.answers <= 2048
+        }
+    }
 }
 
 // A run, its calls' codes and what it left, in tables of which it was lent a part.
@@ -119,55 +138,108 @@ fn past(words: &[u32], used: usize) -> &'static str {
     }
 }
 
-// The error of a case that cannot be read.
-fn unread() -> io::Error {
-    ErrorKind::InvalidData.into()
+// The bytes of a case that are not read yet, and of the cases behind it: where a case ends early, what it lacks is read from the next.
+#[derive(Drop)]
+struct Reader<'a> {
+    rest: &'a [u8],
 }
 
-// A number of a case, in decimal.
-fn number<N: FromStr>(word: Option<&str>) -> io::Result<N>
-where
-    N::Err: Drop,
-{
-    word.and_then(|word| word.parse().ok()).ok_or_else(unread)
+impl Reader<'_> {
+    // The next byte, and the end of a line past the last.
+    fn next(&self) -> u8 {
+        self.rest.first().copied().unwrap_or(b'\n')
+    }
+
+    fn skip(&mut self, count: usize) {
+        self.rest = self.rest.get(count..).unwrap_or(&[]);
+    }
+
+    // The number in decimal behind the next byte: its last seven digits at most, and 0 where there is none.
+    fn number(&mut self) -> u32 {
+        self.skip(1);
+        let mut value = 0;
+        for _ in 0..CASES {
+            let digit = self.next();
+            if !digit.is_ascii_digit() {
+                break;
+            }
+            value = value % 1000000 * 10 + u32::from(digit - b'0');
+            self.skip(1);
+        }
+        value
+    }
+
+    // Adds what the next word of the run's bytes stands for: a byte, or `K*N`, N more bytes, each the one that is K before it.
+    fn add(&mut self, bytes: &mut Vec<u8>) -> Result<(), AllocError> {
+        let value = self.number();
+        if self.next() == b'*' {
+            let count = self.number();
+            return repeat(bytes, value as usize, count);
+        }
+        if bytes.len() < BYTES {
+            bytes.push((value % 256) as u8)?;
+        }
+        Ok(())
+    }
+
+    // The bytes of the words from here on, each behind a blank.
+    fn bytes(&mut self, alloc: Global) -> Result<Vec<u8>, AllocError> {
+        let mut bytes = Vec::new(alloc);
+        for _ in 0..CASES {
+            if self.next() != b' ' {
+                break;
+            }
+            self.add(&mut bytes)?;
+        }
+        Ok(bytes)
+    }
 }
 
-// Adds what a word of the run's bytes stands for: a byte, or `K*N`, N more bytes, each the one that is K before it.
-fn add(bytes: &mut Vec<u8>, word: &str) -> io::Result<()> {
-    let Some((back, count)) = word.split_once('*') else {
-        bytes.push(number(Some(word))?)?;
-        return Ok(());
-    };
-    let back: usize = number(Some(back))?;
-    for _ in 0..number::<usize>(Some(count))? {
-        let at = bytes.len().checked_sub(back).ok_or_else(unread)?;
-        let byte = bytes.get(at).copied().ok_or_else(unread)?;
-        bytes.push(byte)?;
+// Adds so many bytes, each the one that is `back` before it, and 0 where that is itself; none where there is no room, or none so far
+// before.
+fn repeat(bytes: &mut Vec<u8>, back: usize, count: u32) -> Result<(), AllocError> {
+    for _ in 0..count {
+        let Some(at) = bytes.len().checked_sub(back) else {
+            break;
+        };
+        if BYTES <= bytes.len() {
+            break;
+        }
+        bytes.push(bytes.get(at).copied().unwrap_or(0))?;
     }
     Ok(())
 }
 
-fn case(rt: &(impl Print + AllocGlobal), line: &str) -> io::Result<()> {
-    let mut words = line.split(' ');
-    let name = words.next().unwrap_or("");
+// The case at the start of these bytes.
+fn case(rt: &(impl Print + AllocGlobal), cases: &[u8]) -> io::Result<()> {
+    let mut reader = Reader { rest: cases };
+    let name = cases
+        .split(|byte| *byte == b' ' || *byte == b'\n')
+        .next()
+        .unwrap_or(&[]);
+    rt.write_all(name)?;
+    println!(rt)?;
+    reader.skip(name.len());
     let lent = Lent {
-        rows: number(words.next())?,
-        cells: number(words.next())?,
-        answers: number(words.next())?,
+        rows: reader.number(),
+        cells: reader.number(),
+        answers: reader.number(),
     };
-    let mut bytes = Vec::new(rt.alloc());
-    for word in words {
-        add(&mut bytes, word)?;
+    let bytes = reader.bytes(rt.alloc())?;
+    if lent.may_be() {
+        Left::play(rt.alloc(), lent, &bytes)?.report(rt)?;
     }
-    println!(rt; "{name}")?;
-    Left::play(rt.alloc(), lent, &bytes)?.report(rt)
+    Ok(())
 }
 
 fn main(rt: HostRuntime) -> io::Result<()> {
-    let cases = io::read_to_string(rt.alloc(), rt.reader())?;
-    for line in cases.lines() {
-        if !line.is_empty() && !line.starts_with('#') {
-            case(&rt, line)?;
+    let mut input = [0u8; CASES];
+    let n = stdio::read_full(&rt, &mut input)?;
+    let cases = &input[..n];
+    for i in 0..n {
+        let begins = i == 0 || cases[i - 1] == b'\n';
+        if begins && cases[i] != b'#' && cases[i] != b'\n' {
+            case(&rt, &cases[i..])?;
         }
     }
     Ok(())

@@ -13,10 +13,20 @@ use text::{Calls, Piece, Table, Words};
 // What the slices hold before a run.
 const FILL: u32 = 2779096485;
 
+// How much a stored run asks for at most: words of the row table, of the cell store and of the answers, and bytes. One that asks for
+// more differs.
+const ROWS: usize = 49152;
+
+const CELLS: usize = 32768;
+
+const ANSWERS: usize = 16384;
+
+const BYTES: usize = 65600;
+
 // How many calls a stored run has at most.
 const CALLS: usize = 4096;
 
-// How many bytes of a text are shown at a time.
+// How many bytes of a text are compared at a time.
 const PART: usize = 16384;
 
 // The head of a stored run: 28 bytes, its name, then six words.
@@ -56,18 +66,19 @@ impl Head {
         }))
     }
 
-    // The run's bytes, the next ones of standard input, and zeros after them.
+    // The run's bytes, the next ones of standard input, and zeros after them. None are read where more are stored than a run has.
     fn read_run(&self, rt: &(impl Input + AllocGlobal)) -> io::Result<Vec<u8>> {
-        let mut bytes = vec![in rt.alloc(); 0; self.bytes]?;
-        stdio::read_full(rt, &mut bytes[..self.stored.min(self.bytes)])?;
+        let mut bytes = vec![in rt.alloc(); 0; BYTES]?;
+        if self.stored <= BYTES {
+            stdio::read_full(rt, &mut bytes[..self.stored])?;
+        }
+        bytes.truncate(self.bytes);
         Ok(bytes)
     }
 
-    // The text, the next bytes of standard input.
-    fn read_text(&self, rt: &(impl Input + AllocGlobal)) -> io::Result<Vec<u8>> {
-        let mut text = vec![in rt.alloc(); 0; self.text]?;
-        stdio::read_full(rt, &mut text)?;
-        Ok(text)
+    // Whether it asks for no more than a stored run may.
+    fn fits(&self) -> bool {
+        self.rows <= ROWS && self.cells <= CELLS && self.answers <= ANSWERS && self.bytes <= BYTES
     }
 }
 
@@ -121,29 +132,32 @@ impl Left {
         }
     }
 
-    // Whether the text is the stored one; says where they part.
-    fn has_text(&self, rt: &impl Print, stored: &[u8]) -> io::Result<bool> {
+    // Whether the text is the stored one, the next bytes of standard input; says where they part first. Past the end of either are
+    // zeros.
+    fn has_text(&self, rt: &(impl Input + Print), size: usize) -> io::Result<bool> {
         let words = self.words();
-        let mut buf = [0u8; PART];
         let mut same = true;
-        for (i, part) in stored.chunks(PART).enumerate() {
-            let seen = words.window(Piece::Listing, PART * i, 0, &mut buf);
-            let came = &buf[..seen.put];
-            let at = alike(part, came);
-            if at < part.len() {
-                print!(rt; "\nfrom byte {} on, past {at} bytes, stored: ", PART * i)?;
-                rt.write_all(line(part, at))?;
+        for from in (0..size).step_by(PART) {
+            let mut stored = [0u8; PART];
+            let mut came = [0u8; PART];
+            let part = PART.min(size - from);
+            stdio::read_full(rt, &mut stored[..part])?;
+            words.window(Piece::Listing, from, 0, &mut came);
+            let at = alike(&stored[..part], &came);
+            if same && at < part {
+                print!(rt; "\nfrom byte {from} on, past {at} bytes, stored: ")?;
+                rt.write_all(line(&stored, at))?;
                 print!(rt; "\ncame: ")?;
-                rt.write_all(line(came, at))?;
+                rt.write_all(line(&came, at))?;
                 println!(rt)?;
                 same = false;
-                break;
             }
         }
-        let more = words.window(Piece::Listing, stored.len(), 0, &mut buf);
-        if 0 < more.put {
+        let mut more = [0u8; PART];
+        let seen = words.window(Piece::Listing, size, 0, &mut more);
+        if 0 < seen.put {
             print!(rt; "\nmore came: ")?;
-            rt.write_all(line(&buf[..more.put], 0))?;
+            rt.write_all(line(&more, 0))?;
             println!(rt)?;
             same = false;
         }
@@ -184,18 +198,20 @@ fn alike(a: &[u8], b: &[u8]) -> usize {
     a.iter().zip(b).take_while(|(x, y)| **x == **y).count()
 }
 
-// The rest of a line from an offset on, or what there is of it.
+// The rest of a line from an offset on, or what there is of it: it ends where the text does, too, with the zeros past that.
 fn line(text: &[u8], from: usize) -> &[u8] {
     let rest = text.get(from..).unwrap_or(&[]);
-    rest.split(|byte| *byte == b'\n').next().unwrap_or(&[])
+    rest.split(|byte| *byte <= b'\n').next().unwrap_or(&[])
 }
 
 // Plays the run of a head and compares what it left with what is stored: the number of its calls, or `None` where they differ.
 fn replay(rt: &(impl Input + Print + AllocGlobal), head: &Head) -> io::Result<Option<u32>> {
     let bytes = head.read_run(rt)?;
-    let stored = head.read_text(rt)?;
+    if !head.fits() {
+        return Ok(None);
+    }
     let left = Left::play(rt.alloc(), head, &bytes)?;
-    let same = left.has_text(rt, &stored)?;
+    let same = left.has_text(rt, head.text)?;
     let kept = left.has_kept(rt)?;
     Ok((same && kept && left.is_fair()).then_some(left.run.calls))
 }
