@@ -1,0 +1,3 @@
+-- Laws of the tables.
+mod Bounds
+pub mod Past
