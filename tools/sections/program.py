@@ -17,18 +17,36 @@ KINDS = [
 EVERY_KIND = [pair for _, group in KINDS for pair in group]
 
 
-def number_method(enum, has, law, pairs):
-    """The method that gives a variant's number: the enum, what has the number, its definition, and each variant with its number."""
+def number_method(enum, has, law, pairs, other=('other', 'other.number')):
+    """The method that gives a variant's number: the enum, what has the number, its definition, each variant with its number, and the number of
+    what is none of these."""
     arms = ''.join('            %s::%s => %d,\n' % (enum, name, number) for name, number in pairs)
+    arms += '            %s::Other(%s) => %s,\n' % (enum, *other)
     return f'''    // Its number, as {has} has it.
     #[tactic(auto, unfolding(crate::specs::{law}))]
     pub fn number(self) -> u32
         ensures {{ result ≡ {law.split('::')[1]} self }}
     {{
         match self {{
-{arms}            {enum}::Other(number) => number,
-        }}
+{arms}        }}
     }}
+'''
+
+
+def other_number(enum, none, uses):
+    """The file of the numbers that no variant of an enum has: what those numbers are, and what that says uses."""
+    noun = enum.lower()
+    derives = 'Clone, Copy, Debug, PartialEq, Eq' if enum == 'Refusal' else 'Clone, Copy'
+    return f'''// The numbers that no {noun} has.
+// {NOTE}
+ghost use Rattle.std.specs.Prelude.{{{', '.join(uses)}}};
+
+// A number that is no {noun}'s. So a {noun} is one value alone, and who is promised its number is promised which it is.
+#[derive({derives})]
+pub struct Other{enum} {{
+    pub number: u32,
+    ghost none: {{ {none} }},
+}}
 '''
 
 
@@ -59,7 +77,7 @@ impl Kind {{
         }}
     }}
 
-{number_method('Kind', 'a cell', 'Kinds::kind_number', EVERY_KIND)}}}
+{number_method('Kind', 'a cell', 'Kinds::kind_number', EVERY_KIND, ('number', 'number'))}}}
 '''
 
 
@@ -141,16 +159,24 @@ def _():
 ghost use Rattle.std.specs.Prelude.{{◌≡◌}};
 ghost use Rattle.ast.specs.Refusals.{{refusal_number}};
 
+use crate::others::OtherRefusal;
+
 #[derive(Clone, Copy, Debug, PartialEq, Eq)]
 pub enum Refusal {{
 {groups}
     // Any other number.
-    Other(u32),
+    Other(OtherRefusal),
 }}
 
 impl Refusal {{
 {number_method('Refusal', 'an answer', 'Refusals::refusal_number', numbers)}}}
 '''
+
+
+@whole('crates/ast/src/others.rt')
+def _():
+    last = max(number for group in REFUSED for _, number, _ in group)
+    return other_number('Refusal', '0 < number → %d < number' % last, ['◌<◌'])
 
 
 @whole('crates/ast/specs/Refusals.antt')
@@ -164,7 +190,7 @@ use Rattle.ast.specs.declared.refusals.Refusal.TheVariants as refusal
 
 unfoldable pub refusal_number : Refusal → ℕ
 {numbers}
-refusal_number (refusal.Other n) = n
+refusal_number (refusal.Other o) = o.number
 '''
 
 
@@ -198,11 +224,13 @@ def _():
 ghost use Rattle.std.specs.Prelude.{{◌≡◌}};
 ghost use Rattle.producer.specs.Judgments.{{rule_number, words_of}};
 
+use crate::others::OtherRule;
+
 // The rule of a row.
 #[derive(Clone, Copy)]
 pub enum Rule {{
 {rules}    // Any other number.
-    Other(u32),
+    Other(OtherRule),
 }}
 
 impl Rule {{
@@ -237,6 +265,11 @@ impl Judgment {{
 '''
 
 
+@whole('crates/producer/src/others.rt')
+def _():
+    return other_number('Rule', '%d ≤ number' % len(RULES), ['◌≤◌'])
+
+
 @whole('crates/producer/specs/Judgments.antt')
 def _():
     rules = '\n'.join('rule_number rule.%s = R.%s' % (camel(r.name), antt_name(r)) for r in RULES)
@@ -256,7 +289,7 @@ use Rattle.producer.specs.Machine.{{W, emit, find_row}}
 
 unfoldable pub rule_number : Rule → ℕ
 {rules}
-rule_number (rule.Other n) = n
+rule_number (rule.Other o) = o.number
 
 unfoldable pub words_of : Judgment → Words
 {judgments}

@@ -28,4 +28,4 @@ refusal_number refusal.Cells = 20
 refusal_number refusal.NoSigma = 21
 refusal_number refusal.Annotation = 22
 refusal_number refusal.Count = 23
-refusal_number (refusal.Other n) = n
+refusal_number (refusal.Other o) = o.number

@@ -3,6 +3,8 @@
 ghost use Rattle.std.specs.Prelude.{◌≡◌};
 ghost use Rattle.ast.specs.Refusals.{refusal_number};
 
+use crate::others::OtherRefusal;
+
 #[derive(Clone, Copy, Debug, PartialEq, Eq)]
 pub enum Refusal {
     // The row table has under 24 words, or the cell store under 8.
@@ -52,7 +54,7 @@ pub enum Refusal {
     // The count of its types is 0 or above 16.
     Count,
     // Any other number.
-    Other(u32),
+    Other(OtherRefusal),
 }
 
 impl Refusal {
@@ -85,7 +87,7 @@ impl Refusal {
             Refusal::NoSigma => 21,
             Refusal::Annotation => 22,
             Refusal::Count => 23,
-            Refusal::Other(number) => number,
+            Refusal::Other(other) => other.number,
         }
     }
 }

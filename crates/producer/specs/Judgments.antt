@@ -138,7 +138,7 @@ rule_number rule.EqP0Val = R.eq_p0_val
 rule_number rule.EqP1Val = R.eq_p1_val
 rule_number rule.EqAppCong = R.eq_app_cong
 rule_number rule.EqPappCong = R.eq_papp_cong
-rule_number (rule.Other n) = n
+rule_number (rule.Other o) = o.number
 
 unfoldable pub words_of : Judgment → Words
 words_of (judgment.Ctx x0 x1) = record { kind = 0; count = 2; a = x0; b = x1; c = 0; d = 0; e = 0 }

@@ -3,6 +3,8 @@
 ghost use Rattle.std.specs.Prelude.{◌≡◌};
 ghost use Rattle.producer.specs.Judgments.{rule_number, words_of};
 
+use crate::others::OtherRule;
+
 // The rule of a row.
 #[derive(Clone, Copy)]
 pub enum Rule {
@@ -133,7 +135,7 @@ pub enum Rule {
     EqAppCong,
     EqPappCong,
     // Any other number.
-    Other(u32),
+    Other(OtherRule),
 }
 
 impl Rule {
@@ -269,7 +271,7 @@ impl Rule {
             Rule::EqP1Val => 123,
             Rule::EqAppCong => 124,
             Rule::EqPappCong => 125,
-            Rule::Other(number) => number,
+            Rule::Other(other) => other.number,
         }
     }
 }

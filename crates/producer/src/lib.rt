@@ -2,6 +2,7 @@
 #![tactic(auto)]
 
 pub mod codes; // the judgments and the rules, and their numbers
+pub mod others; // the numbers that no rule has
 pub mod answers; // what the functions answer, and refusals
 pub mod counts; // the counts, for a run, a call, a function that is entered
 pub mod rows; // rows, citations, the search for a known judgment

@@ -132,7 +132,7 @@ pub fn rule_of(op: Op, kind: u32) -> Rule
             Rule::DSubstSnd,
         ),
         // end of rules of a kind
-        _ => Rule::Other(0),
+        _ => Rule::CtxNil,
     }
 }
 
