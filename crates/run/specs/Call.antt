@@ -7,6 +7,7 @@ use Rattle.producer.specs.Calls.{callees}
 use Rattle.walk.specs.Reader.{c_context, c_universe, c_infer, c_check, c_normalise, c_equal, c_many}
 use Rattle.syntax.specs.declared.scan.CallHead.{CallHead}
 use Rattle.syntax.specs.Told.{code_number, code_of}
+use Rattle.run.specs.declared.call.Head.{Head}
 use Rattle.run.specs.Build.{built, scoped}
 
 -- a row with no result, and a result before its row
@@ -61,9 +62,13 @@ with_scope left bytes at ty code dims size = do
   (g, terms) ← scoped size bytes at nil
   by_code left bytes terms ty code dims g
 
-unfoldable pub with_context : ℕ → List ℕ → (at ty : ℕ) → CallHead → W (ℕ × ℕ)
-with_context left bytes at ty head = with_scope left bytes at ty (code_number (code_of head.code)) head.dims head.size
+unfoldable pub with_context : ℕ → List ℕ → (at ty : ℕ) → Head → W (ℕ × ℕ)
+with_context left bytes at ty head = with_scope left bytes at ty head.code head.dims head.size
 
--- the call at an offset, which has this head; the whole limit is left
-unfoldable pub called : List ℕ → (at ty : ℕ) → CallHead → W (ℕ × ℕ)
+-- the call at an offset, which has this head, whose first byte may be no code; the whole limit is left
+unfoldable pub called : List ℕ → (at ty : ℕ) → Head → W (ℕ × ℕ)
 called bytes at ty head = λ w. with_context w.state.limit bytes (up (up (up at))) ty head w
+
+-- the bytes of a head that was read
+abbrev pub head_bytes : CallHead → Head
+head_bytes head = record { code = code_number (code_of head.code); dims = head.dims; size = head.size }

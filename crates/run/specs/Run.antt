@@ -26,7 +26,7 @@ use Rattle.run.specs.declared.entry.Plan.{Plan}
 use Rattle.run.specs.declared.entry.Spot.{Spot}
 use Rattle.run.specs.declared.entry.Turn.{Turn}
 use Rattle.run.specs.Build.{byte_at}
-use Rattle.run.specs.Call.{called}
+use Rattle.run.specs.Call.{called, head_bytes}
 
 -- a word of a number, and a number that is at most a word
 unfoldable pub low_of : ℕ → ℕ
@@ -101,7 +101,7 @@ planned room bytes spot =
 
 -- a call of a size, at an offset: in a run that was read, none is bad or short
 unfoldable pub turned_by : Outcome Fitting Unfit → List ℕ → (at ty left : ℕ) → Machine → Told
-turned_by (Ok fitting) bytes at ty left w = told (called bytes (low_of at) (low_of ty) fitting.head (machine w.rows w.cells (fresh w.state))) (spot_after at fitting.next left)
+turned_by (Ok fitting) bytes at ty left w = told (called bytes (low_of at) (low_of ty) (head_bytes fitting.head) (machine w.rows w.cells (fresh w.state))) (spot_after at fitting.next left)
 turned_by (Err (Refused why next)) bytes at ty left w = turn_end (refused_of w.state (refusal_number why) (spot_after at next left)) w.rows w.cells
 turned_by (Err (NotRead (Bad place))) bytes at ty left w = turn_end (refused_of w.state Refusal.unread (spot_after at place left)) w.rows w.cells
 turned_by (Err (NotRead Short)) bytes at ty left w = turn_end (refused_of w.state Refusal.unread (spot_after at at left)) w.rows w.cells

@@ -3,7 +3,7 @@
 ghost use Rattle.std.specs.Prelude.{◌≡◌};
 ghost use Rattle.producer.specs.Answers.{end};
 ghost use Rattle.producer.specs.Machine.{machine};
-ghost use Rattle.run.specs.Call.{with_term, with_sides, by_code, with_scope, with_context, called};
+ghost use Rattle.run.specs.Call.{with_term, with_sides, by_code, with_scope, with_context, called, head_bytes};
 
 use crate::build::{DEPTH, build, scope};
 use ast::cells::{Node, quote};
@@ -11,6 +11,28 @@ use ast::kinds::Kind;
 use producer::State;
 use producer::answers::Answer;
 use syntax::{CallHead, Code};
+
+// The bytes of a call's head, of which the first may be a code or not.
+#[derive(Clone, Copy)]
+pub struct Head {
+    pub code: u8,
+    pub dims: u8,
+    pub size: u8,
+}
+
+impl Head {
+    // Those of a head that was read.
+    pub fn of(head: CallHead) -> Head
+        ensures { result ≡ head_bytes head }
+    {
+        let CallHead { code, dims, size } = head;
+        Head {
+            code: code.number(),
+            dims,
+            size,
+        }
+    }
+}
 
 // The row and the result of the call at `at`, which has this head, or its refusal. A result that is a term is the lowest cell with
 // its quote. Of a call with many types, the type at `ty` is checked; other codes have none there.
@@ -20,7 +42,7 @@ pub fn call(
     bytes: &[u8],
     at: u32,
     ty: u32,
-    head: CallHead,
+    head: Head,
     rows: &mut [u32],
     cells: &mut [u32],
 ) -> Answer<(u32, u32)>
@@ -41,28 +63,17 @@ pub fn enter_context(
     bytes: &[u8],
     at: u32,
     ty: u32,
-    head: CallHead,
+    head: Head,
     rows: &mut [u32],
     cells: &mut [u32],
 ) -> Answer<(u32, u32)>
     ensures { end result rows.new cells.new ≡ with_context left bytes.now at ty head (machine rows.old cells.old state) }
 {
-    let CallHead { code, dims, size } = head;
-    enter_scope(
-        state,
-        left,
-        bytes,
-        at,
-        ty,
-        code.number(),
-        dims,
-        size,
-        rows,
-        cells,
-    )
+    let Head { code, dims, size } = head;
+    enter_scope(state, left, bytes, at, ty, code, dims, size, rows, cells)
 }
 
-// The same of any byte as a code.
+// The same of the three bytes one by one.
 #[tactic(auto, unfolding(crate::specs::Call::with_scope, crate::proofs::Steps::steps))]
 pub fn enter_scope(
     state: State,

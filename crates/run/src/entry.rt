@@ -8,7 +8,7 @@ ghost use Rattle.run.specs.Contract.{Runs};
 ghost use Rattle.run.specs.Run.{low_of, at_most, started, first_spot, spot_after, refused_of, answered_of, turn_end, planned_alone, planned_type, planned_many, planned, turned, play_end, played, refused_run, end_run, run_of};
 
 use crate::build::byte;
-use crate::call::call;
+use crate::call::{Head, call};
 use ast::refusals::Refusal;
 use ast::words::{put, put_all};
 use producer::State;
@@ -206,8 +206,9 @@ fn step(
             let s = state.begin();
             let from = low(at);
             let type_at = low(ty);
+            let head = Head::of(fitting.head);
             answered(
-                call(s, bytes, from, type_at, fitting.head, rows, cells),
+                call(s, bytes, from, type_at, head, rows, cells),
                 after(at, fitting.next, left),
             )
         }

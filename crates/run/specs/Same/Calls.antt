@@ -17,7 +17,7 @@ use Rattle.syntax.specs.Calls.{TermsAt, no_terms, next_term, CallAt, CallFits, c
 use Rattle.syntax.specs.Fuel.{fit_term}
 use Rattle.link.specs.Asked.{build_term, build_context, call_ctx, call_universe, call_infer, call_check, call_normalize, call_head_normalize, call_equal}
 use Rattle.run.specs.Build.{made, built, scoped, scoped_body}
-use Rattle.run.specs.Call.{row_alone, row_first, row_quoted, with_sides, with_term, by_code, with_scope, with_context}
+use Rattle.run.specs.Call.{row_alone, row_first, row_quoted, with_sides, with_term, by_code, with_scope, with_context, head_bytes}
 use Rattle.run.specs.Same.Steps.{then_same, then_then, then_give, give_then, made_then, made_in}
 use Rattle.run.specs.Same.Terms.{up_is, built_term}
 
@@ -123,7 +123,7 @@ module _ (bytes : List ℕ) (left d : ℕ) (types : List Term) where
 
 -- a call that was read, whose types fit: its context, then the rest
 module _ (bytes : List ℕ) (short : length bytes ≤ 65536) (left at ty : ℕ) {call : Call} {next : ℕ} (C : CallAt bytes at call next) where
-  scoped_call : {middle : ℕ} → size_terms call.types 0 ≡ fits middle → with_context left bytes (up (up (up at))) ty (head_in call.code call.dims (length call.types)) ≡ (prepared (callees left) make_nil >>= λ nil. scope_cells call.types nil >>= λ g. by_code left bytes C.middle ty (code_number call.code) call.dims g)
+  scoped_call : {middle : ℕ} → size_terms call.types 0 ≡ fits middle → with_context left bytes (up (up (up at))) ty (head_bytes (head_in call.code call.dims (length call.types))) ≡ (prepared (callees left) make_nil >>= λ nil. scope_cells call.types nil >>= λ g. by_code left bytes C.middle ty (code_number call.code) call.dims g)
   unfolding with_context with_scope
   scoped_call z =
       let u₁ : up at ≡ at + 1 = up_is at (omega (arith, C.far, C.inside)) in
@@ -132,13 +132,13 @@ module _ (bytes : List ℕ) (short : length bytes ≤ 65536) (left at ty : ℕ) 
       rw (u₁, u₂, u₃, code_again call.code) (then_same (prepared (callees left) (intern 32 0 0 0)) (λ nil. rw (scoped_is bytes (at + 3) call.types (all_sent bytes short 0 C.types z) nil) (made_then C.middle (scope_cells call.types nil) _)))
 
   -- by itself, where it fits
-  pub called_is : {n : ℕ} → lists_types call.code ≡ false → size_call call ≡ fits n → with_context left bytes (up (up (up at))) ty (head_in call.code call.dims (length call.types)) ≡ by_call (callees left) call.code call.dims (scope_of Nil call.types) call.terms
+  pub called_is : {n : ℕ} → lists_types call.code ≡ false → size_call call ≡ fits n → with_context left bytes (up (up (up at))) ty (head_bytes (head_in call.code call.dims (length call.types))) ≡ by_call (callees left) call.code call.dims (scope_of Nil call.types) call.terms
   called_is {n} f z =
       let F : CallFits call n = call_fits call z in
       scoped_call F.types ∙ coded bytes left call.dims call.types C.middle ty call.code call.terms f C.many (all_sent bytes short F.middle C.terms F.terms)
 
   -- a check of it, where that fits
-  pub draft_is : {u : Term} {end n : ℕ} → call.code ≡ c_many → TermsAt bytes ty (u ∷ []) end → size_call (check_of call u) ≡ fits n → with_context left bytes (up (up (up at))) ty (head_in call.code call.dims (length call.types)) ≡ by_call (callees left) c_check call.dims (scope_of Nil call.types) (call.terms ++ u ∷ [])
+  pub draft_is : {u : Term} {end n : ℕ} → call.code ≡ c_many → TermsAt bytes ty (u ∷ []) end → size_call (check_of call u) ≡ fits n → with_context left bytes (up (up (up at))) ty (head_bytes (head_in call.code call.dims (length call.types))) ≡ by_call (callees left) c_check call.dims (scope_of Nil call.types) (call.terms ++ u ∷ [])
   draft_is {u} {end} {n} m U z =
       let F : CallFits (check_of call u) n = call_fits (check_of call u) z in
       let (k, a, b) = size_first (size_terms call.terms F.middle) (size_terms (u ∷ [])) (sym (size_terms_append call.terms (u ∷ []) F.middle) ∙ F.terms) in

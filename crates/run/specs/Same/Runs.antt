@@ -28,7 +28,7 @@ use Rattle.link.specs.Lists.{written}
 use Rattle.link.specs.Asked.{Said, lowest_of, ask, ask_sized, ask_counted, ask_call, with_marks, ask_from, ask_all, afresh, start, four_words, written_over}
 use Rattle.link.specs.Asked as L
 use Rattle.link.proofs.Words.{said_calls}
-use Rattle.run.specs.Call.{row_alone, row_first, row_quoted, called}
+use Rattle.run.specs.Call.{row_alone, row_first, row_quoted, called, head_bytes}
 use Rattle.ast.specs.declared.refusals.Refusal.TheVariants.{Count}
 use Rattle.ast.specs.Refusals.{refusal_number}
 use Rattle.run.specs.declared.entry.Spot.{Spot}
@@ -89,7 +89,7 @@ module _ (bytes : List ℕ) (short : length bytes ≤ 65536) where
       go false e = refl
 
   -- one call, by its size, with its type at an offset
-  sized_is : (at ty next left : ℕ) (head call : Call) → ((n : ℕ) → size_call call ≡ fits n → (spot : Spot) (w : Machine) → told (called bytes at ty (head_in head.code head.dims (length head.types)) (afresh w)) spot ≡ told_of (ask (callees w.state.limit) call.code call.dims (scope_of Nil call.types) call.terms (afresh w)) spot) → at < 4294967296 → ty < 4294967296 → (w : Machine) → turned_by (sized (size_call call) head next) bytes at ty left w ≡ told_of (ask_sized (size_call call) call w) (spot_after at next left)
+  sized_is : (at ty next left : ℕ) (head call : Call) → ((n : ℕ) → size_call call ≡ fits n → (spot : Spot) (w : Machine) → told (called bytes at ty (head_bytes (head_in head.code head.dims (length head.types))) (afresh w)) spot ≡ told_of (ask (callees w.state.limit) call.code call.dims (scope_of Nil call.types) call.terms (afresh w)) spot) → at < 4294967296 → ty < 4294967296 → (w : Machine) → turned_by (sized (size_call call) head next) bytes at ty left w ≡ told_of (ask_sized (size_call call) call w) (spot_after at next left)
   unfolding turned_by sized ask_sized refused_of refusal_number afresh
   sized_is at ty next left head call walked l k w = go (size_call call) refl
     where

@@ -5,5 +5,5 @@ use Rattle.run.proofs.entry.step.Goals as goal
 
 pub returns-in-Ok : goal.returns-in-Ok
 unfolding turned turned_by steps
-returns-in-Ok c = rw (← c.plan_next-size.ensures, c.in-Ok.is, ← c.begin-s.ensures, ← c.low-from.ensures, ← c.low-type_at.ensures, ← c.after.ensures, ← c.call.ensures, c.answered.ensures)
+returns-in-Ok c = rw (← c.plan_next-size.ensures, c.in-Ok.is, ← c.begin-s.ensures, ← c.low-from.ensures, ← c.low-type_at.ensures, ← c.of-head.ensures, ← c.after.ensures, ← c.call.ensures, c.answered.ensures)
     (rw (law.told_end _ _ _ _))
