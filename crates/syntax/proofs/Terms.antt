@@ -23,9 +23,8 @@ past true r p e = absurd (let z : ◌≡◌ {A = ℕ} 0 1 = cc in omega arith)
 past false (got a rest at) p e = let q : p ≡ at = cc in rw q (a, rest, refl)
 past false (bad place) p e = absurd (let z : ◌≡◌ {A = ℕ} 0 1 = cc in omega arith)
 
-past_term : (bytes : List ℕ) (at p : ℕ) → Ok p ≡ next_of (term_at bytes at) → (a : Term) × (term_at bytes at ≡ got a (drop p bytes) p)
-unfolding next_in
-past_term bytes at p e = go (past false (term_at bytes at) p e)
+pub past_term : (t : Bool) (bytes : List ℕ) (at p : ℕ) → Ok p ≡ next_in t (term_at bytes at) → (a : Term) × (term_at bytes at ≡ got a (drop p bytes) p)
+past_term t bytes at p e = go (past t (term_at bytes at) p e)
   where
     go : (a : Term) × (rest : List ℕ) × (term_at bytes at ≡ got a rest p) → (a : Term) × (term_at bytes at ≡ got a (drop p bytes) p)
     go q = (q.0, q.2 ∙ ap (λ (l : List ℕ). got q.0 l p) (ends (goes_term (length bytes)) bytes at q.2).left)
@@ -37,10 +36,10 @@ next_map g (bad place) = refl
 
 -- one turn, after so many
 pub terms_on : (bytes : List ℕ) (n i at p : ℕ) → i < n → Ok p ≡ next_of (term_at bytes at) → next_of (terms_at (n - i) bytes at) ≡ next_of (terms_at (n - (i + 1)) bytes p)
-unfolding read_terms ◌>>=◌ read_on
+unfolding read_terms ◌>>=◌ read_on next_in
 terms_on bytes n i at p h e =
     let left : n - i ≡ suc (n - (i + 1)) = omega arith in
-    rw (left, (past_term bytes at p e).1) (next_map _ (read_terms (length bytes) (n - (i + 1)) (drop p bytes) p))
+    rw (left, (past_term false bytes at p e).1) (next_map _ (read_terms (length bytes) (n - (i + 1)) (drop p bytes) p))
 
 pub terms_stop : (bytes : List ℕ) (n at : ℕ) (u : Unread) → 0 < n → Err u ≡ next_of (term_at bytes at) → Err u ≡ next_of (terms_at n bytes at)
 unfolding read_terms ◌>>=◌
