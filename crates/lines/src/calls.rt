@@ -5,7 +5,7 @@ ghost use Rattle.lines.specs.Calls.{answer_word, code, call_row, result as resul
 
 use ast::words::word;
 use quotes::Table;
-use writer::Writer;
+use writer::Output;
 
 // The codes of the calls whose line shows a result.
 const UNIVERSE: u8 = 1;
@@ -39,62 +39,62 @@ impl Calls<'_> {
 
     // A call's line.
     #[tactic(auto, using(writer::proofs::Laws::writing), unfolding(crate::specs::Calls::call_line))]
-    pub fn line(&self, table: &Table, writer: &mut Writer, i: u32)
-        ensures { writer.new ≡ written (call_line self.now.codes.now self.now.answers.now table.now.cells.now i) writer.old }
+    pub fn line(&self, table: &Table, output: &mut Output, i: u32)
+        ensures { output.new ≡ written (call_line self.now.codes.now self.now.answers.now table.now.cells.now i) output.old }
     {
-        self.head(writer, i);
-        writer.put(b' ');
-        self.result(table, writer, i);
-        writer.put(b' ');
-        writer.number(self.answer_word(i, 3));
-        writer.put(b'\n');
+        self.head(output, i);
+        output.put(b' ');
+        self.result(table, output, i);
+        output.put(b' ');
+        output.number(self.answer_word(i, 3));
+        output.put(b'\n');
     }
 
     // Its number, the number of its refusal, and its row.
     #[tactic(auto, using(writer::proofs::Laws::writing), unfolding(crate::specs::Calls::call_head))]
-    fn head(&self, writer: &mut Writer, i: u32)
-        ensures { writer.new ≡ written (call_head self.now.answers.now i) writer.old }
+    fn head(&self, output: &mut Output, i: u32)
+        ensures { output.new ≡ written (call_head self.now.answers.now i) output.old }
     {
-        writer.number(i);
-        writer.put(b' ');
-        writer.number(self.answer_word(i, 0));
-        writer.put(b' ');
-        self.row(writer, i);
+        output.number(i);
+        output.put(b' ');
+        output.number(self.answer_word(i, 0));
+        output.put(b' ');
+        self.row(output, i);
     }
 
     // The row of a call, or -.
     #[tactic(auto, unfolding(crate::specs::Calls::call_row, writer::specs::Window::written))]
-    fn row(&self, writer: &mut Writer, i: u32)
-        ensures { writer.new ≡ written (call_row self.now.answers.now i) writer.old }
+    fn row(&self, output: &mut Output, i: u32)
+        ensures { output.new ≡ written (call_row self.now.answers.now i) output.old }
     {
         if self.answer_word(i, 0) == 0 {
-            writer.number(self.answer_word(i, 1));
+            output.number(self.answer_word(i, 1));
         } else {
-            writer.put(b'-');
+            output.put(b'-');
         }
     }
 
     // The result of a call, or -.
     #[tactic(auto, unfolding(crate::specs::Calls::call_result, writer::specs::Window::written))]
-    fn result(&self, table: &Table, writer: &mut Writer, i: u32)
-        ensures { writer.new ≡ written (call_result self.now.codes.now self.now.answers.now table.now.cells.now i) writer.old }
+    fn result(&self, table: &Table, output: &mut Output, i: u32)
+        ensures { output.new ≡ written (call_result self.now.codes.now self.now.answers.now table.now.cells.now i) output.old }
     {
         if self.answer_word(i, 0) == 0 {
-            accepted(table, writer, self.code(i), self.answer_word(i, 2));
+            accepted(table, output, self.code(i), self.answer_word(i, 2));
         } else {
-            writer.put(b'-');
+            output.put(b'-');
         }
     }
 }
 
 // The result of an accepted call with the code: a level, a cell by quote, or -.
 #[tactic(auto, unfolding(crate::specs::Calls::result, writer::specs::Window::written))]
-fn accepted(table: &Table, writer: &mut Writer, code: u8, x: u32)
-    ensures { writer.new ≡ written (result_of code table.now.cells.now x) writer.old }
+fn accepted(table: &Table, output: &mut Output, code: u8, x: u32)
+    ensures { output.new ≡ written (result_of code table.now.cells.now x) output.old }
 {
     match code {
-        UNIVERSE => writer.number(x),
-        INFER | NORMALISE | HEAD => table.quote(writer, x),
-        _ => writer.put(b'-'),
+        UNIVERSE => output.number(x),
+        INFER | NORMALISE | HEAD => table.quote(output, x),
+        _ => output.put(b'-'),
     }
 }

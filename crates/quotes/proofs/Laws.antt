@@ -8,7 +8,7 @@ use Rattle.rules.specs.declared.Sort.{Sort}
 use Rattle.rules.specs.declared.Sort.TheVariants.{Term, Interval, Context}
 use Rattle.writer.specs.Text.{Text}
 use Rattle.writer.specs.Window.{put, written}
-use Rattle.writer.specs.declared.Writer.{Writer}
+use Rattle.writer.specs.declared.Output.{Output}
 use Rattle.writer.proofs.Laws.{written_append, written_cons, written_nil}
 use Rattle.quotes.specs.Quotes.{by_sort, part_as, node_as}
 
@@ -28,5 +28,5 @@ pub node_parts : (q : ℕ → Text) (C : List ℕ) (i kind : ℕ) (first : Part)
 unfolding node_as
 node_parts q C i kind first h = ap (λ (p : Option Part). elim p as (λ _. Text) [ None ↦ node_name kind | Some _ ↦ bytes "(" ++ node_name kind ++ part_as q C i kind 0 ++ part_as q C i kind 1 ++ part_as q C i kind 2 ++ bytes ")" ]) h
 
-pub written_node : (name a b c : Text) (w : Writer) → written (bytes "(" ++ name ++ a ++ b ++ c ++ bytes ")") w ≡ put 41 (written c (written b (written a (written name (put 40 w)))))
-written_node name a b c w = rw (written_append, written_append, written_append, written_append, written_append) (rw (written_cons, written_nil) (rw (written_cons, written_nil)))
+pub written_node : (name a b c : Text) (o : Output) → written (bytes "(" ++ name ++ a ++ b ++ c ++ bytes ")") o ≡ put 41 (written c (written b (written a (written name (put 40 o)))))
+written_node name a b c o = rw (written_append, written_append, written_append, written_append, written_append) (rw (written_cons, written_nil) (rw (written_cons, written_nil)))

@@ -12,7 +12,7 @@ pub use lines::calls::Calls;
 use lines::rows;
 pub use quotes::Table;
 use ran::Ran;
-use writer::Writer;
+use writer::Output;
 
 // A text that can be asked for.
 #[derive(Clone, Copy)]
@@ -50,88 +50,88 @@ impl Words<'_> {
         ensures shown { Shown (piece what self.now.run self.now.calls.codes.now self.now.calls.answers.now self.now.table.rows.now self.now.table.cells.now) from most buf.old result.put result.left buf.new }
         ensures within { (result.put ≤ length buf.new) × (result.put ≡ length (take result.put buf.new)) }
     {
-        let mut writer = Writer::new(from, most, buf);
-        self.piece(&mut writer, what);
+        let mut output = Output::new(from, most, buf);
+        self.piece(&mut output, what);
         View {
-            put: writer.filled,
-            left: writer.left,
+            put: output.writer.filled,
+            left: output.writer.left,
         }
     }
 
     // A text that was asked for.
     #[tactic(auto, using(writer::proofs::Laws::written_same), unfolding(crate::specs::Listing::piece))]
-    fn piece(&self, writer: &mut Writer, what: Piece)
-        ensures same_reference { writer.new.buf.ghost_name ≡ writer.old.buf.ghost_name }
-        ensures text { writer.new ≡ written (piece what self.now.run self.now.calls.codes.now self.now.calls.answers.now self.now.table.rows.now self.now.table.cells.now) writer.old }
+    fn piece(&self, output: &mut Output, what: Piece)
+        ensures same_reference { output.new.buf.ghost_name ≡ output.old.buf.ghost_name }
+        ensures text { output.new ≡ written (piece what self.now.run self.now.calls.codes.now self.now.calls.answers.now self.now.table.rows.now self.now.table.cells.now) output.old }
     {
         match what {
-            Piece::Listing => self.listing(writer),
-            Piece::CallLine(i) => self.calls.line(&self.table, writer, i),
-            Piece::RowLine(i) => rows::line(&self.table, writer, i),
-            Piece::Totals => self.totals(writer),
-            Piece::RowNumber(i) => writer.number(i),
-            Piece::RuleName(i) => rows::rule(&self.table, writer, i),
-            Piece::Refs(i) => rows::refs(&self.table, writer, i),
-            Piece::Judgment(i) => rows::judgment(&self.table, writer, i),
+            Piece::Listing => self.listing(output),
+            Piece::CallLine(i) => self.calls.line(&self.table, output, i),
+            Piece::RowLine(i) => rows::line(&self.table, output, i),
+            Piece::Totals => self.totals(output),
+            Piece::RowNumber(i) => output.number(i),
+            Piece::RuleName(i) => rows::rule(&self.table, output, i),
+            Piece::Refs(i) => rows::refs(&self.table, output, i),
+            Piece::Judgment(i) => rows::judgment(&self.table, output, i),
         }
     }
 
     // The listing of a run.
-    fn listing(&self, writer: &mut Writer)
-        ensures { writer.new ≡ written (listing self.now.run self.now.calls.codes.now self.now.calls.answers.now self.now.table.rows.now self.now.table.cells.now) writer.old }
+    fn listing(&self, output: &mut Output)
+        ensures { output.new ≡ written (listing self.now.run self.now.calls.codes.now self.now.calls.answers.now self.now.table.rows.now self.now.table.cells.now) output.old }
     {
         if self.run.number != 0 {
-            self.refused(writer);
+            self.refused(output);
             return;
         }
-        writer.bytes(b"call code row result deepest\n");
-        self.call_lines(writer);
-        writer.bytes(b"row rule refs judgment\n");
-        self.row_lines(writer);
-        writer.bytes(b"rows cells repeats\n");
-        self.totals(writer);
+        output.bytes(b"call code row result deepest\n");
+        self.call_lines(output);
+        output.bytes(b"row rule refs judgment\n");
+        self.row_lines(output);
+        output.bytes(b"rows cells repeats\n");
+        self.totals(output);
     }
 
     // The listing of a run that is refused as a whole.
-    fn refused(&self, writer: &mut Writer)
-        ensures { writer.new ≡ written (refused_listing self.now.run) writer.old }
+    fn refused(&self, output: &mut Output)
+        ensures { output.new ≡ written (refused_listing self.now.run) output.old }
     {
-        writer.bytes(b"number place\n");
-        writer.number(self.run.number);
-        writer.put(b' ');
-        writer.number(self.run.place);
-        writer.put(b'\n');
+        output.bytes(b"number place\n");
+        output.number(self.run.number);
+        output.put(b' ');
+        output.number(self.run.place);
+        output.put(b'\n');
     }
 
     // The lines of all calls, and of all rows.
     #[tactic(auto, using(writer::proofs::Laws::written_turn, writer::proofs::Laws::written_end))]
-    fn call_lines(&self, writer: &mut Writer)
-        ensures { writer.new ≡ written (each (call_line self.now.calls.codes.now self.now.calls.answers.now self.now.table.cells.now) 0 self.now.run.calls) writer.old }
+    fn call_lines(&self, output: &mut Output)
+        ensures { output.new ≡ written (each (call_line self.now.calls.codes.now self.now.calls.answers.now self.now.table.cells.now) 0 self.now.run.calls) output.old }
     {
         for i in 0..self.run.calls {
-            self.calls.line(&self.table, writer, i);
+            self.calls.line(&self.table, output, i);
         }
     }
 
     #[tactic(auto, using(writer::proofs::Laws::written_turn, writer::proofs::Laws::written_end))]
-    fn row_lines(&self, writer: &mut Writer)
-        ensures { writer.new ≡ written (each (row_line self.now.table.rows.now self.now.table.cells.now) 0 self.now.run.rows) writer.old }
+    fn row_lines(&self, output: &mut Output)
+        ensures { output.new ≡ written (each (row_line self.now.table.rows.now self.now.table.cells.now) 0 self.now.run.rows) output.old }
     {
         for i in 0..self.run.rows {
-            rows::line(&self.table, writer, i);
+            rows::line(&self.table, output, i);
         }
     }
 
     // The totals' line.
     #[tactic(auto, using(writer::proofs::Laws::writing), unfolding(crate::specs::Listing::totals))]
-    fn totals(&self, writer: &mut Writer)
-        ensures { writer.new ≡ written (totals self.now.run self.now.calls.codes.now self.now.calls.answers.now) writer.old }
+    fn totals(&self, output: &mut Output)
+        ensures { output.new ≡ written (totals self.now.run self.now.calls.codes.now self.now.calls.answers.now) output.old }
     {
-        writer.number(self.run.rows);
-        writer.put(b' ');
-        writer.number(self.run.cells);
-        writer.put(b' ');
-        writer.number(self.calls.repeats(self.run.calls));
-        writer.put(b'\n');
+        output.number(self.run.rows);
+        output.put(b' ');
+        output.number(self.run.cells);
+        output.put(b' ');
+        output.number(self.calls.repeats(self.run.calls));
+        output.put(b'\n');
     }
 }

@@ -11,23 +11,23 @@ use lib.Dec.{leb, eqb}
 use lib.ListN.{length, get_or, drop, drop_of_length-le}
 use Rattle.std.proofs.lemmas.List.{at_drop_more}
 use Rattle.writer.specs.Text.{Text, each, digit, digits, decimal}
-use Rattle.writer.specs.Window.{put, ended, written}
-use Rattle.writer.specs.declared.Writer.{Writer}
+use Rattle.writer.specs.Window.{put, ended_in, ended, written}
+use Rattle.writer.specs.declared.Output.{Output}
 
 -- writing
 
-pub written_nil : (w : Writer) → written [] w ≡ w
+pub written_nil : (o : Output) → written [] o ≡ o
 unfolding written
-written_nil w = refl
+written_nil o = refl
 
-pub written_cons : (b : ℕ) (t : Text) (w : Writer) → written (b ∷ t) w ≡ written t (put b w)
+pub written_cons : (b : ℕ) (t : Text) (o : Output) → written (b ∷ t) o ≡ written t (put b o)
 unfolding written
-written_cons b t w = refl
+written_cons b t o = refl
 
-pub written_append : (s t : Text) (w : Writer) → written (s ++ t) w ≡ written t (written s w)
+pub written_append : (s t : Text) (o : Output) → written (s ++ t) o ≡ written t (written s o)
 unfolding written
-written_append [] t w = refl
-written_append (b ∷ s) t w = written_append s t (put b w)
+written_append [] t o = refl
+written_append (b ∷ s) t o = written_append s t (put b o)
 
 -- By these a text that is written piece by piece is the whole, written at once.
 pub ruleset writing = (written_nil, written_cons, written_append)
@@ -35,42 +35,42 @@ pub ruleset writing = (written_nil, written_cons, written_append)
 both : {a b : Bool} → (a && b) ≡ true → (a ≡ true) × (b ≡ true)
 both {a} {b} h = (and-eq-true_iff a b).0 h
 
-ended_parts : (w : Writer) → ended w ≡ true → (w.skip ≡ 0) × ((length w.buf.now ≤ w.filled) × (w.most ≤ w.left))
-unfolding ended
-ended_parts w h =
-    let k : (eqb w.skip 0 ≡ true) × ((leb (length w.buf.now) w.filled && leb w.most w.left) ≡ true) = both h in
-    let l : (leb (length w.buf.now) w.filled ≡ true) × (leb w.most w.left ≡ true) = both k.1 in
+ended_parts : (o : Output) → ended o ≡ true → (o.writer.skip ≡ 0) × ((length o.buf.now ≤ o.writer.filled) × (o.writer.most ≤ o.writer.left))
+unfolding ended ended_in
+ended_parts o h =
+    let k : (eqb o.writer.skip 0 ≡ true) × ((leb (length o.buf.now) o.writer.filled && leb o.writer.most o.writer.left) ≡ true) = both h in
+    let l : (leb (length o.buf.now) o.writer.filled ≡ true) × (leb o.writer.most o.writer.left ≡ true) = both k.1 in
     (eqb-true _ _ k.0, (leb-true _ _ l.0, leb-true _ _ l.1))
 
-put_ended : (b : ℕ) (w : Writer) → ended w ≡ true → put b w ≡ w
+put_ended : (b : ℕ) (o : Output) → ended o ≡ true → put b o ≡ o
 unfolding put
-put_ended b w h = let k : (w.skip ≡ 0) × ((length w.buf.now ≤ w.filled) × (w.most ≤ w.left)) = ended_parts w h in
+put_ended b o h = let k : (o.writer.skip ≡ 0) × ((length o.buf.now ≤ o.writer.filled) × (o.writer.most ≤ o.writer.left)) = ended_parts o h in
     rw (eq-eqb _ _ k.0, put, le-ltb _ _ k.1.0, put, le-ltb _ _ k.1.1, put)
 
--- Where the writer has ended nothing changes.
-pub written_ended : (t : Text) (w : Writer) → ended w ≡ true → written t w ≡ w
+-- Where the output has ended nothing changes.
+pub written_ended : (t : Text) (o : Output) → ended o ≡ true → written t o ≡ o
 unfolding written
-written_ended [] w h = refl
-written_ended (b ∷ t) w h = ap (written t) (put_ended b w h) ∙ written_ended t w h
+written_ended [] o h = refl
+written_ended (b ∷ t) o h = ap (written t) (put_ended b o h) ∙ written_ended t o h
 
 -- The buffer stays the one that was lent.
-put_same : (b : ℕ) (w : Writer) → (put b w).buf.ghost_name ≡ w.buf.ghost_name
+put_same : (b : ℕ) (o : Output) → (put b o).buf.ghost_name ≡ o.buf.ghost_name
 unfolding put
-put_same b w = elim (ℕ_discrete w.skip 0) [
-  | yes h ↦ elim (dec_lt w.filled (length w.buf.now)) [
+put_same b o = elim (ℕ_discrete o.writer.skip 0) [
+  | yes h ↦ elim (dec_lt o.writer.filled (length o.buf.now)) [
     | yes k ↦ rw (eq-eqb _ _ h, put, lt-ltb _ _ k, put)
-    | no k ↦ elim (dec_lt w.left w.most) [
-      | yes l ↦ rw (eq-eqb _ _ h, put, le-ltb w.filled (length w.buf.now) (omega arith), put, lt-ltb _ _ l, put)
-      | no l ↦ rw (eq-eqb _ _ h, put, le-ltb w.filled (length w.buf.now) (omega arith), put, le-ltb w.left w.most (omega arith), put)
+    | no k ↦ elim (dec_lt o.writer.left o.writer.most) [
+      | yes l ↦ rw (eq-eqb _ _ h, put, le-ltb o.writer.filled (length o.buf.now) (omega arith), put, lt-ltb _ _ l, put)
+      | no l ↦ rw (eq-eqb _ _ h, put, le-ltb o.writer.filled (length o.buf.now) (omega arith), put, le-ltb o.writer.left o.writer.most (omega arith), put)
     ]
   ]
   | no h ↦ rw (ne_eqb _ _ h, put)
 ]
 
-pub written_same : (t : Text) (w : Writer) → (written t w).buf.ghost_name ≡ w.buf.ghost_name
+pub written_same : (t : Text) (o : Output) → (written t o).buf.ghost_name ≡ o.buf.ghost_name
 unfolding written
-written_same [] w = refl
-written_same (b ∷ t) w = written_same t (put b w) ∙ put_same b w
+written_same [] o = refl
+written_same (b ∷ t) o = written_same t (put b o) ∙ put_same b o
 
 -- loops
 
@@ -79,20 +79,20 @@ each_turn : (f : ℕ → Text) (k n : ℕ) → k < n → each f k (n - k) ≡ f 
 unfolding each
 each_turn f k n h = let e : n - k ≡ suc (n - (k + 1)) = omega arith in let g : k + 1 ≡ suc k = omega arith in rw (e, g)
 
-pub written_turn : (f : ℕ → Text) (k n : ℕ) (w' w : Writer) → k < n → w' ≡ written (f k) w → written (each f (k + 1) (n - (k + 1))) w' ≡ written (each f k (n - k)) w
-written_turn f k n w' w h e = rw (e, each_turn f k n h, written_append)
+pub written_turn : (f : ℕ → Text) (k n : ℕ) (o' o : Output) → k < n → o' ≡ written (f k) o → written (each f (k + 1) (n - (k + 1))) o' ≡ written (each f k (n - k)) o
+written_turn f k n o' o h e = rw (e, each_turn f k n h, written_append)
 
-pub written_end : (f : ℕ → Text) (k n : ℕ) (w : Writer) → n ≤ k → written (each f k (n - k)) w ≡ w
+pub written_end : (f : ℕ → Text) (k n : ℕ) (o : Output) → n ≤ k → written (each f k (n - k)) o ≡ o
 unfolding each written
-written_end f k n w h = let e : n - k ≡ 0 = omega arith in rw e
+written_end f k n o h = let e : n - k ≡ 0 = omega arith in rw e
 
 -- A turn of a loop that puts the k-th byte of a text, and its end.
-pub written_next : (t : Text) (k : ℕ) (w : Writer) → k < length t → written (drop (k + 1) t) (put (get_or t k 0) w) ≡ written (drop k t) w
+pub written_next : (t : Text) (k : ℕ) (o : Output) → k < length t → written (drop (k + 1) t) (put (get_or t k 0) o) ≡ written (drop k t) o
 unfolding written
-written_next t k w h = sym (at_drop_more (λ s. written s w) t k 0 h)
+written_next t k o h = sym (at_drop_more (λ s. written s o) t k 0 h)
 
-pub written_past : (t : Text) (k : ℕ) (w : Writer) → length t ≤ k → written (drop k t) w ≡ w
-written_past t k w h = rw (drop_of_length-le t h, written_nil)
+pub written_past : (t : Text) (k : ℕ) (o : Output) → length t ≤ k → written (drop k t) o ≡ o
+written_past t k o h = rw (drop_of_length-le t h, written_nil)
 
 -- numbers
 

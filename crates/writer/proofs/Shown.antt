@@ -14,14 +14,14 @@ use lib.ListN.{length, take, drop, length-append, length-drop, drop_of_length-le
 use lib.Seq.{take-nil, drop-nil, set-append_seam, length-take-le}
 use Rattle.std.specs.Borrow.{MutBor}
 use Rattle.writer.specs.Text.{Text}
-use Rattle.writer.specs.Window.{start, put, written, Shown}
-use Rattle.writer.specs.declared.Writer.{Writer}
+use Rattle.writer.specs.Window.{writer, start, put, written, Shown}
+use Rattle.writer.specs.declared.Output.{Output}
 use Rattle.writer.proofs.Laws.{written_nil, written_cons}
 
 module _ (lent : MutBor (List ℕ)) where
-  -- The writer of the buffer, where that holds the list.
-  abbrev holding : List ℕ → ℕ → ℕ → ℕ → ℕ → Writer
-  holding held skip filled left most = record { buf = record lent { now = held }; skip = skip; filled = filled; left = left; most = most }
+  -- The output into the buffer, where that holds the list.
+  abbrev holding : List ℕ → ℕ → ℕ → ℕ → ℕ → Output
+  holding held skip filled left most = record { writer = writer skip filled left most; buf = record lent { now = held } }
 
   -- One byte after those that are filled.
   put_next : (b x l m : ℕ) (d r : List ℕ) → put b (holding (d ++ x ∷ r) 0 (length d) l m) ≡ holding (d ++ b ∷ r) 0 (length d + 1) l m
@@ -75,14 +75,14 @@ module _ (lent : MutBor (List ℕ)) where
   skip (b ∷ t) zero f l m buf = rw zero-sub
   skip (b ∷ t) (suc s) f l m buf = rw (written_cons, put_skip, suc-sub-suc) (skip t s f l m buf)
 
-  -- What a writer says of itself.
-  abbrev Says : Text → ℕ → ℕ → Writer → Type 0
-  Says t from most w = Shown t from most lent.now w.filled w.left w.buf.now
+  -- What an output says of itself.
+  abbrev Says : Text → ℕ → ℕ → Output → Type 0
+  Says t from most o = Shown t from most lent.now o.writer.filled o.writer.left o.buf.now
 
-  to_shown : (t : Text) (from most n : ℕ) (w : Writer) → w ≡ holding (take (length lent.now) (drop from t) ++ drop (min (length lent.now) (length t - from)) lent.now) n (min (length lent.now) (length t - from)) (min most (length t - from - length lent.now)) most → Says t from most w
-  to_shown t from most n w e = record { counted = ap (λ x. x.filled) e; rest = ap (λ x. x.left) e; held = rw (ap (λ x. x.filled) e) (ap (λ x. x.buf.now) e) }
+  to_shown : (t : Text) (from most n : ℕ) (o : Output) → o ≡ holding (take (length lent.now) (drop from t) ++ drop (min (length lent.now) (length t - from)) lent.now) n (min (length lent.now) (length t - from)) (min most (length t - from - length lent.now)) most → Says t from most o
+  to_shown t from most n o e = record { counted = ap (λ x. x.writer.filled) e; rest = ap (λ x. x.writer.left) e; held = rw (ap (λ x. x.writer.filled) e) (ap (λ x. x.buf.now) e) }
 
-  -- A writer that started at the window, when the text is written.
+  -- An output that started at the window, when the text is written.
   shown : (t : Text) (from most : ℕ) → Says t from most (written t (start from most lent))
   shown t from most = elim (dec_le from (length t)) [
     | yes h ↦ to_shown t from most 0 (written t (start from most lent)) (let e : from - length t ≡ 0 = omega arith in rw (skip t from 0 0 most lent.now, e) (rw (length-drop, zero-add) at (fill (drop from t) most [] lent.now)))
@@ -95,10 +95,10 @@ module _ (lent : MutBor (List ℕ)) where
       let h : n ≤ length after = rw (s.counted, e) (min-le_left (length lent.now) (length t - from)) in
       (h, sym (length-take-le n after h))
 
-  -- Both, of a writer that has written the text.
+  -- Both, of an output that has written the text.
   pub windowed :
-      (t : Text) (from most : ℕ) (w : Writer)
-      → w ≡ written t (start from most lent)
-      → length w.buf.now ≡ length lent.now
-      → Shown t from most lent.now w.filled w.left w.buf.now × ((w.filled ≤ length w.buf.now) × (w.filled ≡ length (take w.filled w.buf.now)))
-  windowed t from most w e l = let h : Says t from most w = rw e (shown t from most) in (h, within t from most w.filled w.left w.buf.now h l)
+      (t : Text) (from most : ℕ) (o : Output)
+      → o ≡ written t (start from most lent)
+      → length o.buf.now ≡ length lent.now
+      → Shown t from most lent.now o.writer.filled o.writer.left o.buf.now × ((o.writer.filled ≤ length o.buf.now) × (o.writer.filled ≡ length (take o.writer.filled o.buf.now)))
+  windowed t from most o e l = let h : Says t from most o = rw e (shown t from most) in (h, within t from most o.writer.filled o.writer.left o.buf.now h l)

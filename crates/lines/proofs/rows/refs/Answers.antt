@@ -12,7 +12,7 @@ returns-then-n-eq0 c = rw (← c.row_word.ensures, min_comm 10 _, ← c.min-n.en
 
 pub loop-k-preserved : goal.loop-k-preserved
 loop-k-preserved c =
-    written_turn (reference c.args.table.now.rows.now c.args.i) c.loop-k.k c.min-n.result _ c.loop-k.writer c.loop-k-test.true
+    written_turn (reference c.args.table.now.rows.now c.args.i) c.loop-k.k c.min-n.result _ c.loop-k.output c.loop-k-test.true
     (rw (c.number-in-loop-k.ensures, c.put-in-loop-k.ensures, c.row_word-in-loop-k.ensures, written_cons)) ∙
     c.loop-k.invariant
 

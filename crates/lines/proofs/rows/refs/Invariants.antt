@@ -6,4 +6,4 @@ use Rattle.lines.specs.Rows.{reference}
 use Rattle.lines.proofs.rows.refs.Given as goal
 
 abbrev pub invariant-loop-k : goal.invariant-loop-k
-invariant-loop-k l = written (each (reference l.table.rows.now l.i) l.k (l.n - l.k)) l.writer ≡ written (each (reference l.table.rows.now l.i) 1 (l.n - 1)) l.initial.writer
+invariant-loop-k l = written (each (reference l.table.rows.now l.i) l.k (l.n - l.k)) l.output ≡ written (each (reference l.table.rows.now l.i) 1 (l.n - 1)) l.initial.output

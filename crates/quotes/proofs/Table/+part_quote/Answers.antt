@@ -23,7 +23,7 @@ unfolding part_in
 part-returns-else-x-i t c = rw (← c.node_part.ensures, c.in-Some.is, quoted _ _ _ c.in-Term.is, written_cons, ← c.cell_word-x.ensures) (rw (lower_no _ _ _ c.if-x-i.false, written_nil, ← c.put.ensures))
 
 pub quote-returns-then-ended : goal.quote-returns-then-ended
-quote-returns-then-ended t c = sym (written_ended _ c.args.writer.now (sym c.ended.ensures ∙ c.if-ended.true))
+quote-returns-then-ended t c = sym (written_ended _ c.args.output.now (sym c.ended.ensures ∙ c.if-ended.true))
 
 pub quote-returns-in_default : goal.quote-returns-in_default
 quote-returns-in_default t c = rw (quote_node, ← c.cell_word-kind.ensures, node_atom _ _ _ _ (sym c.node_part.ensures ∙ c.in_default.is), ← c.bytes-name.ensures, ← c.bytes.ensures)

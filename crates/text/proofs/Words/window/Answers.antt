@@ -1,4 +1,4 @@
--- A writer that starts at the window shows what it is to show, in the buffer that it holds.
+-- An output that starts at the window shows what it is to show, in the buffer that it holds.
 use Rattle.std.proofs.Common.{rules, ◌≡◌, ap, ◌∙◌, length}
 use Rattle.writer.specs.Window.{written}
 use Rattle.writer.proofs.Shown.{windowed}
@@ -6,7 +6,7 @@ use Rattle.text.proofs.Words.window.Goals as goal
 
 pub returns : goal.returns
 returns c =
-    let same : c.piece.new.writer.buf.now ≡ c.buf-1.given.0 = search rules in
-    let long : length c.piece.new.writer.buf.now ≡ length c.args.buf.now = search rules in
-    let h = rw same at (windowed _ _ _ _ c.piece.new.writer (c.piece.ensures.text ∙ ap (written _) c.new-writer.ensures.started) long) in
+    let same : c.piece.new.output.buf.now ≡ c.buf-1.given.0 = search rules in
+    let long : length c.piece.new.output.buf.now ≡ length c.args.buf.now = search rules in
+    let h = rw same at (windowed _ _ _ _ c.piece.new.output (c.piece.ensures.text ∙ ap (written _) c.new-output.ensures.started) long) in
     record { shown = h.0; within = h.1 }

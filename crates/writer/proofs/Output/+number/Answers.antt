@@ -1,7 +1,7 @@
 -- A number's digits but the last are those of a tenth of it.
 use Rattle.writer.proofs.Laws.{written_nil, written_cons, written_append, decimal_small, decimal_more}
-use Rattle.writer.proofs.Writer.+number.Goals.{then-n-ge10, else-n-ge10}
-use Rattle.writer.proofs.Writer.+number.Goals as goal
+use Rattle.writer.proofs.Output.+number.Goals.{then-n-ge10, else-n-ge10}
+use Rattle.writer.proofs.Output.+number.Goals as goal
 
 pub returns : goal.returns
 returns t c = elim c.if-n-ge10.branch [
