@@ -33,6 +33,23 @@ def number_method(enum, has, law, pairs, other=('other', 'other.number')):
 '''
 
 
+def of_method(enum, law, pairs):
+    """The method that gives the variant with a number: the enum, the definition of its numbers, each variant with its number."""
+    arms = ''.join('            %d => %s::%s,\n' % (number, enum, name) for name, number in pairs)
+    noun = enum.lower()
+    return f'''    // The {noun} with the number.
+    #[tactic(auto, unfolding(crate::specs::{law}))]
+    pub fn of(number: u32) -> {enum}
+        ensures {{ {law.split('::')[1]} result ≡ number }}
+    {{
+        match number {{
+{arms}            _ => {enum}::Other(Other{enum} {{ number }}),
+        }}
+    }}
+
+'''
+
+
 def other_number(enum, none, uses):
     """The file of the numbers that no variant of an enum has: what those numbers are, and what that says uses."""
     noun = enum.lower()
@@ -111,6 +128,16 @@ kind_of n = kind_in every_kind n
 '''
 
 
+def seen_values(noun, pairs):
+    """Every value of an enum that has a name, and each value found by its number: what Alone asks of them."""
+    enum = noun.capitalize()
+    values = ['%s.%s' % (noun, name) for name, _ in pairs]
+    back = 'found %s_number %s every_%s' % (noun, values[0], noun)
+    return (['abbrev every_%s : List %s' % (noun, enum), 'every_%s = %s ∷ []' % (noun, ' ∷ '.join(values)), '',
+             'seen : (x : %s) → Seen %s_number (%s) has Other%s.none-type other x' % (enum, noun, back, enum), 'unfolding %s_number found' % noun]
+            + ['seen %s = inl (refl, refl)' % value for value in values] + ['seen (%s.Other o) = inr (o.number, o.none, refl)' % noun])
+
+
 @section('crates/ast/proofs/Numbered.antt', 'kinds')
 def _():
     named = ['named kind.%s = true' % name for name, _ in EVERY_KIND] + ['named (kind.Other n) = false']
@@ -169,8 +196,13 @@ pub enum Refusal {{
 }}
 
 impl Refusal {{
-{number_method('Refusal', 'an answer', 'Refusals::refusal_number', numbers)}}}
+{of_method('Refusal', 'Refusals::refusal_number', numbers)}{number_method('Refusal', 'an answer', 'Refusals::refusal_number', numbers)}}}
 '''
+
+
+@section('crates/ast/proofs/Refused.antt', 'refusals')
+def _():
+    return seen_values('refusal', [(name, number) for group in REFUSED for name, number, _ in group])
 
 
 @whole('crates/ast/src/others.rt')
@@ -234,7 +266,7 @@ pub enum Rule {{
 }}
 
 impl Rule {{
-{number_method('Rule', 'a row', 'Judgments::rule_number', numbers)}}}
+{of_method('Rule', 'Judgments::rule_number', numbers)}{number_method('Rule', 'a row', 'Judgments::rule_number', numbers)}}}
 
 // What a row states: of numbers, and of quotes by their lowest cells.
 #[derive(Clone, Copy)]
@@ -263,6 +295,11 @@ impl Judgment {{
     }}
 }}
 '''
+
+
+@section('crates/producer/proofs/Ruled.antt', 'rules')
+def _():
+    return seen_values('rule', [(camel(r.name), r.number) for r in RULES])
 
 
 @whole('crates/producer/src/others.rt')

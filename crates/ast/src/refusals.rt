@@ -58,6 +58,39 @@ pub enum Refusal {
 }
 
 impl Refusal {
+    // The refusal with the number.
+    #[tactic(auto, unfolding(crate::specs::Refusals::refusal_number))]
+    pub fn of(number: u32) -> Refusal
+        ensures { refusal_number result ≡ number }
+    {
+        match number {
+            1 => Refusal::Slices,
+            2 => Refusal::Bytes,
+            3 => Refusal::Unread,
+            4 => Refusal::Answers,
+            5 => Refusal::Scope,
+            6 => Refusal::Size,
+            7 => Refusal::Index,
+            8 => Refusal::Unbound,
+            9 => Refusal::NoFunction,
+            10 => Refusal::NoPath,
+            11 => Refusal::NoType,
+            12 => Refusal::Levels,
+            13 => Refusal::Quotes,
+            14 => Refusal::StepType,
+            15 => Refusal::Reductions,
+            16 => Refusal::Conversions,
+            17 => Refusal::Dimension,
+            18 => Refusal::Rows,
+            19 => Refusal::Nesting,
+            20 => Refusal::Cells,
+            21 => Refusal::NoSigma,
+            22 => Refusal::Annotation,
+            23 => Refusal::Count,
+            _ => Refusal::Other(OtherRefusal { number }),
+        }
+    }
+
     // Its number, as an answer has it.
     #[tactic(auto, unfolding(crate::specs::Refusals::refusal_number))]
     pub fn number(self) -> u32

@@ -1,3 +1,4 @@
 -- What the proofs of several functions use.
 mod Steps
 pub mod At
+pub mod Ruled

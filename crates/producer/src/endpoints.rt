@@ -1,6 +1,6 @@
 // Endpoints: the end that an interval works out to.
 ghost use Rattle.std.specs.Prelude.{◌≡◌};
-ghost use Rattle.ast.specs.Kinds.{kind_number};
+ghost use Rattle.ast.specs.Kinds.{kind_number, kind_of};
 ghost use Rattle.producer.specs.Answers.{end_maybe};
 ghost use Rattle.producer.specs.Judgments.{rule_number};
 ghost use Rattle.producer.specs.Machine.{machine};
@@ -25,9 +25,10 @@ pub enum End {
 
 impl End {
     // The kind of its node.
-    #[tactic(auto, unfolding(crate::specs::Endpoints::end_kind, ast::specs::Kinds::kind_number))]
+    #[tactic(auto, unfolding(crate::specs::Endpoints::end_kind, ast::specs::Kinds::kind_number, ast::specs::Kinds::kind_of, ast::specs::Kinds::kind_in))]
     pub fn kind(self) -> Kind
-        ensures { kind_number result ≡ end_kind self }
+        ensures is { result ≡ kind_of (end_kind self) }
+        ensures number { kind_number result ≡ end_kind self }
     {
         match self {
             End::I0 => Kind::I0,
