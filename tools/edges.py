@@ -10,8 +10,8 @@ stands in SAID below: where the oracle says otherwise, nothing is written and th
 is docs/FORMAT.md's rule, and the oracle has no words: `stay` is written for all.
 
 The last run has 1,586 bytes. With a table of 32,401 rows and a store of 19,723 cells it uses both up to the last, and the call is
-refused with 19, deepest 4,096; a smaller table or store gives 18 or 20. It takes 3.0 MB of stack, and no case of `edges` more than
-0.9 MB (crates/edges/src/main.rt): the program `deepest` plays it.
+refused with 19, deepest 4,096; a smaller table or store gives 18 or 20. `edges` has no room for it beside its table on a stack of
+8 MB (crates/edges/src/main.rt): the program `deepest` plays it.
 """
 import os
 import subprocess

@@ -6,20 +6,24 @@
 // stayed, in the row table, the cell store and the answers, also where the run is refused and none is used; and the last eight
 // calls' lines as the listing has them. All words are first filled with one that no run stores.
 //
-// The tables are on the heap, and up to 6.0 MB. The run `deep` of tools/edges.py meets the limit 4,096 too, and takes 3.0 MB of stack
-// for that: it stands here with the limit 1,024, which takes 0.9 MB.
+// Stack: the table takes 6.0 MB of it. The run `deep` of tools/edges.py meets the limit 4,096 too, and takes 3.0 MB for that, so that a
+// case with all rows for it does not fit in 8 MB: it stands here with the limit 1,024, which takes 0.9 MB.
 #![tactic(auto)]
 
 use ran::Ran;
-use std::alloc::{AllocError, Global};
 use std::io;
 use text::{Calls, Piece, Table, Words};
 
 // The word that slices hold before a run.
 const FILL: u32 = 2863311530;
 
-// How many words each table has past those that are lent.
+// How many words each part of the table has past those that are lent, where there is room for so many; and in any case.
 const PAST: usize = 8192;
+
+const LEAST_PAST: usize = 1024;
+
+// The words of the table: as many as a case with all rows takes.
+const WORDS: usize = 1200048 + 305152 + 2048 + 3 * LEAST_PAST;
 
 // More calls than any run has, and the words of their answers.
 const CALLS: usize = 49930;
@@ -52,34 +56,46 @@ impl Lent {
     }
 }
 
-// A run, its calls' codes and what it left, in tables of which it was lent a part.
-#[derive(Drop)]
-struct Left {
+// A run, its calls' codes and what it left, in the parts of the table of which it was lent the first words.
+#[derive(Clone, Copy)]
+struct Left<'a> {
     run: Ran,
-    codes: Vec<u8>,
-    answers: Vec<u32>,
-    rows: Vec<u32>,
-    cells: Vec<u32>,
+    codes: &'a [u8],
+    answers: &'a [u32],
+    rows: &'a [u32],
+    cells: &'a [u32],
 }
 
-impl Left {
-    // Plays a run, with so many words of each slice.
-    fn play(alloc: Global, lent: Lent, bytes: &[u8]) -> Result<Left, AllocError> {
+impl<'a> Left<'a> {
+    // Plays a run, with so many words of each part of the table, if a case may lend them. Only the parts are filled.
+    fn play(
+        lent: Lent,
+        bytes: &[u8],
+        table: &'a mut [u32],
+        codes: &'a mut [u8],
+    ) -> Option<Left<'a>> {
+        if !lent.may_be() {
+            return None;
+        }
         let lent_rows = lent.rows as usize;
         let lent_cells = lent.cells as usize;
         let lent_answers = lent.answers as usize;
-        let mut rows = vec![in alloc; FILL; lent_rows + PAST]?;
-        let mut cells = vec![in alloc; FILL; lent_cells + PAST]?;
-        let mut answers = vec![in alloc; FILL; lent_answers + PAST]?;
-        let mut codes = vec![in alloc; 0; CALLS]?;
+        let spare = WORDS.saturating_sub(lent_rows + lent_cells + lent_answers);
+        let past = PAST.min(spare / 3);
+        let (rows, rest) = table.split_at_mut_checked(lent_rows + past)?;
+        let (cells, rest) = rest.split_at_mut_checked(lent_cells + past)?;
+        let (answers, _) = rest.split_at_mut_checked(lent_answers + past)?;
+        rows.fill(FILL);
+        cells.fill(FILL);
+        answers.fill(FILL);
         let run = run::entry::run(
             bytes,
             &mut rows[..lent_rows],
             &mut cells[..lent_cells],
             &mut answers[..lent_answers],
         );
-        syntax::call_codes(bytes, &mut codes);
-        Ok(Left {
+        syntax::call_codes(bytes, codes);
+        Some(Left {
             run,
             codes,
             answers,
@@ -93,12 +109,12 @@ impl Left {
         Words {
             run: self.run,
             calls: Calls {
-                codes: &self.codes,
-                answers: &self.answers,
+                codes: self.codes,
+                answers: self.answers,
             },
             table: Table {
-                rows: &self.rows,
-                cells: &self.cells,
+                rows: self.rows,
+                cells: self.cells,
             },
         }
     }
@@ -115,9 +131,9 @@ impl Left {
         let words = self.words();
         let repeats = words.calls.repeats(calls);
         print!(rt; "run {number} {place} {calls} {rows} {cells} {repeats}")?;
-        let rows = past(&self.rows, 24 * rows as usize);
-        let cells = past(&self.cells, 8 * cells as usize);
-        let answers = past(&self.answers, 4 * calls as usize);
+        let rows = past(self.rows, 24 * rows as usize);
+        let cells = past(self.cells, 8 * cells as usize);
+        let answers = past(self.answers, 4 * calls as usize);
         println!(rt; " {rows} {cells} {answers}")?;
         for i in calls.saturating_sub(8)..calls {
             let mut buf = [0u8; 4096];
@@ -170,48 +186,64 @@ impl Reader<'_> {
     }
 
     // Adds what the next word of the run's bytes stands for: a byte, or `K*N`, N more bytes, each the one that is K before it.
-    fn add(&mut self, bytes: &mut Vec<u8>) -> Result<(), AllocError> {
+    fn add(&mut self, bytes: &mut Bytes) {
         let value = self.number();
         if self.next() == b'*' {
             let count = self.number();
-            return repeat(bytes, value as usize, count);
+            bytes.repeat(value as usize, count);
+        } else {
+            bytes.push((value % 256) as u8);
         }
-        if bytes.len() < BYTES {
-            bytes.push((value % 256) as u8)?;
-        }
-        Ok(())
     }
 
-    // The bytes of the words from here on, each behind a blank.
-    fn bytes(&mut self, alloc: Global) -> Result<Vec<u8>, AllocError> {
-        let mut bytes = Vec::new(alloc);
+    // Adds the bytes of the words from here on, each behind a blank.
+    fn add_all(&mut self, bytes: &mut Bytes) {
         for _ in 0..CASES {
             if self.next() != b' ' {
                 break;
             }
-            self.add(&mut bytes)?;
+            self.add(bytes);
         }
-        Ok(bytes)
     }
 }
 
-// Adds so many bytes, each the one that is `back` before it, and 0 where that is itself; none where there is no room, or none so far
-// before.
-fn repeat(bytes: &mut Vec<u8>, back: usize, count: u32) -> Result<(), AllocError> {
-    for _ in 0..count {
-        let Some(at) = bytes.len().checked_sub(back) else {
-            break;
-        };
-        if BYTES <= bytes.len() {
-            break;
-        }
-        bytes.push(bytes.get(at).copied().unwrap_or(0))?;
+// The bytes of a case's run, at the start of the room for them.
+#[derive(Drop)]
+struct Bytes<'a> {
+    room: &'a mut [u8; BYTES],
+    len: usize,
+}
+
+impl Bytes<'_> {
+    fn as_slice(&self) -> &[u8] {
+        self.room.get(..self.len).unwrap_or(&[])
     }
-    Ok(())
+
+    // Adds a byte, where there is room.
+    fn push(&mut self, byte: u8) {
+        if self.len < BYTES {
+            self.room[self.len] = byte;
+            self.len += 1;
+        }
+    }
+
+    // Adds so many bytes, each the one that is `back` before it, and 0 where that is itself; none where there is no room, or none
+    // so far before.
+    fn repeat(&mut self, back: usize, count: u32) {
+        for _ in 0..count {
+            let Some(at) = self.len.checked_sub(back) else {
+                break;
+            };
+            if BYTES <= self.len {
+                break;
+            }
+            self.push(self.room[at]);
+        }
+    }
 }
 
 // The case at the start of these bytes.
-fn case(rt: &(impl Print + AllocGlobal), cases: &[u8]) -> io::Result<()> {
+fn case(rt: &impl Print, cases: &[u8], table: &mut [u32]) -> io::Result<()> {
     let mut reader = Reader { rest: cases };
     let name = cases
         .split(|byte| *byte == b' ' || *byte == b'\n')
@@ -225,21 +257,33 @@ fn case(rt: &(impl Print + AllocGlobal), cases: &[u8]) -> io::Result<()> {
         cells: reader.number(),
         answers: reader.number(),
     };
-    let bytes = reader.bytes(rt.alloc())?;
-    if lent.may_be() {
-        Left::play(rt.alloc(), lent, &bytes)?.report(rt)?;
+    let mut room = [0u8; BYTES];
+    let mut bytes = Bytes {
+        room: &mut room,
+        len: 0,
+    };
+    reader.add_all(&mut bytes);
+    let mut codes = [0u8; CALLS];
+    if let Some(left) = Left::play(lent, bytes.as_slice(), table, &mut codes) {
+        left.report(rt)?;
     }
     Ok(())
+}
+
+// A table in a function of its own: the checker does not take apart what it is full of.
+fn table() -> [u32; WORDS] {
+    [0; WORDS]
 }
 
 fn main(rt: HostRuntime) -> io::Result<()> {
     let mut input = [0u8; CASES];
     let n = stdio::read_full(&rt, &mut input)?;
     let cases = &input[..n];
+    let mut table = table();
     for i in 0..n {
         let begins = i == 0 || cases[i - 1] == b'\n';
         if begins && cases[i] != b'#' && cases[i] != b'\n' {
-            case(&rt, &cases[i..])?;
+            case(&rt, &cases[i..], &mut table)?;
         }
     }
     Ok(())

@@ -5,7 +5,6 @@
 ghost use Rattle.std.specs.Prelude.{◌+◌, ◌≤◌};
 
 use ran::Ran;
-use std::alloc::{AllocError, Global};
 use std::{fmt, io};
 use syntax::call_codes;
 use text::{Calls, Piece, Table, Words};
@@ -65,21 +64,6 @@ impl Head {
             text: word(&words, 20),
         }))
     }
-
-    // The run's bytes, the next ones of standard input, and zeros after them. None are read where more are stored than a run has.
-    fn read_run(&self, rt: &(impl Input + AllocGlobal)) -> io::Result<Vec<u8>> {
-        let mut bytes = vec![in rt.alloc(); 0; BYTES]?;
-        if self.stored <= BYTES {
-            stdio::read_full(rt, &mut bytes[..self.stored])?;
-        }
-        bytes.truncate(self.bytes);
-        Ok(bytes)
-    }
-
-    // Whether it asks for no more than a stored run may.
-    fn fits(&self) -> bool {
-        self.rows <= ROWS && self.cells <= CELLS && self.answers <= ANSWERS && self.bytes <= BYTES
-    }
 }
 
 // The word at an offset, low byte first.
@@ -89,45 +73,76 @@ fn word(words: &[u8; 24], at: usize) -> usize
     u32::from_le_bytes([words[at], words[at + 1], words[at + 2], words[at + 3]]) as usize
 }
 
-// A run, its calls' codes and what it left in the slices that it was lent.
+// What each run is played in, filled anew for each: fixed arrays, so that nothing is allocated. `main` makes them in place, since a
+// function that returned them would have them on the stack more than once.
 #[derive(Drop)]
-struct Left {
-    run: Ran,
-    codes: Vec<u8>,
-    answers: Vec<u32>,
-    rows: Vec<u32>,
-    cells: Vec<u32>,
+struct Tables {
+    rows: [u32; ROWS],
+    cells: [u32; CELLS],
+    answers: [u32; ANSWERS],
+    bytes: [u8; BYTES],
+    codes: [u8; CALLS],
 }
 
-impl Left {
-    // Plays a run in slices of so many words as the head says.
-    fn play(alloc: Global, head: &Head, bytes: &[u8]) -> Result<Left, AllocError> {
-        let mut rows = vec![in alloc; FILL; head.rows]?;
-        let mut cells = vec![in alloc; FILL; head.cells]?;
-        let mut answers = vec![in alloc; FILL; head.answers]?;
-        let mut codes = vec![in alloc; 0; CALLS]?;
-        let run = run::entry::run(bytes, &mut rows, &mut cells, &mut answers);
-        call_codes(bytes, &mut codes);
-        Ok(Left {
-            run,
-            codes,
-            answers,
-            rows,
-            cells,
-        })
+impl Tables {
+    // Puts a run's bytes there, the next ones of standard input, then zeros. None are read where more are stored than fit.
+    fn read_run(&mut self, rt: &impl Input, stored: usize) -> io::Result<()> {
+        self.bytes.fill(0);
+        if let Some(bytes) = self.bytes.get_mut(..stored) {
+            stdio::read_full(rt, bytes)?;
+        }
+        Ok(())
     }
 
+    // Plays the stored run in slices of so many words as the head says, unless it asks for more than a stored run may.
+    fn play(&mut self, head: &Head) -> Option<Left<'_>> {
+        let bytes = self.bytes.get(..head.bytes)?;
+        let rows = self.rows.get_mut(..head.rows)?;
+        let cells = self.cells.get_mut(..head.cells)?;
+        let answers = self.answers.get_mut(..head.answers)?;
+        rows.fill(FILL);
+        cells.fill(FILL);
+        answers.fill(FILL);
+        self.codes.fill(0);
+        let run = run::entry::run(bytes, rows, cells, answers);
+        call_codes(bytes, &mut self.codes);
+        self.left(head, run)
+    }
+
+    // What a run left in the slices that it was lent.
+    fn left(&self, head: &Head, run: Ran) -> Option<Left<'_>> {
+        Some(Left {
+            run,
+            codes: &self.codes,
+            answers: self.answers.get(..head.answers)?,
+            rows: self.rows.get(..head.rows)?,
+            cells: self.cells.get(..head.cells)?,
+        })
+    }
+}
+
+// A run, its calls' codes and what it left in the slices that it was lent.
+#[derive(Clone, Copy)]
+struct Left<'a> {
+    run: Ran,
+    codes: &'a [u8],
+    answers: &'a [u32],
+    rows: &'a [u32],
+    cells: &'a [u32],
+}
+
+impl Left<'_> {
     // The words that the listing is made of.
     fn words(&self) -> Words<'_> {
         Words {
             run: self.run,
             calls: Calls {
-                codes: &self.codes,
-                answers: &self.answers,
+                codes: self.codes,
+                answers: self.answers,
             },
             table: Table {
-                rows: &self.rows,
-                cells: &self.cells,
+                rows: self.rows,
+                cells: self.cells,
             },
         }
     }
@@ -168,9 +183,9 @@ impl Left {
     fn has_kept(&self, rt: &impl Print) -> io::Result<bool> {
         let mut kept = true;
         for (label, words, used) in [
-            ("rows", &self.rows, 24 * self.run.rows as usize),
-            ("cells", &self.cells, 8 * self.run.cells as usize),
-            ("answers", &self.answers, 4 * self.run.calls as usize),
+            ("rows", self.rows, 24 * self.run.rows as usize),
+            ("cells", self.cells, 8 * self.run.cells as usize),
+            ("answers", self.answers, 4 * self.run.calls as usize),
         ] {
             if !words.iter().skip(used).all(|word| *word == FILL) {
                 println!(rt; "\n{label} past the used ones changed")?;
@@ -205,12 +220,11 @@ fn line(text: &[u8], from: usize) -> &[u8] {
 }
 
 // Plays the run of a head and compares what it left with what is stored: the number of its calls, or `None` where they differ.
-fn replay(rt: &(impl Input + Print + AllocGlobal), head: &Head) -> io::Result<Option<u32>> {
-    let bytes = head.read_run(rt)?;
-    if !head.fits() {
+fn replay(rt: &(impl Input + Print), head: &Head, tables: &mut Tables) -> io::Result<Option<u32>> {
+    tables.read_run(rt, head.stored)?;
+    let Some(left) = tables.play(head) else {
         return Ok(None);
-    }
-    let left = Left::play(rt.alloc(), head, &bytes)?;
+    };
     let same = left.has_text(rt, head.text)?;
     let kept = left.has_kept(rt)?;
     Ok((same && kept && left.is_fair()).then_some(left.run.calls))
@@ -248,13 +262,20 @@ impl fmt::Display for Tally {
 }
 
 fn main(rt: HostRuntime) -> io::Result<()> {
+    let mut tables = Tables {
+        rows: [0; ROWS],
+        cells: [0; CELLS],
+        answers: [0; ANSWERS],
+        bytes: [0; BYTES],
+        codes: [0; CALLS],
+    };
     let mut tally = Tally::default();
     for _ in 0..100000 {
         let Some(head) = Head::read(&rt)? else {
             break;
         };
         rt.write_all(&head.name)?;
-        let calls = replay(&rt, &head)?;
+        let calls = replay(&rt, &head, &mut tables)?;
         println!(rt;
             "{}",
             if calls.is_some() {
