@@ -4,10 +4,10 @@
 //
 // For each case are printed its name; number, place, calls, rows, cells and repeats of the run; whether the words past the used ones
 // stayed, in the row table, the cell store and the answers, also where the run is refused and none is used; and the last eight
-// calls' lines as the listing has them. All words are first filled with one that no run stores.
+// calls' lines as the listing has them. The words that a case takes of the table are first filled with one that no run stores.
 //
-// Stack: the table takes 6.0 MB of it. The run `deep` of tools/edges.py meets the limit 4,096 too, and takes 3.0 MB for that, so that a
-// case with all rows for it does not fit in 8 MB: it stands here with the limit 1,024, which takes 0.9 MB.
+// Stack: the table takes 6.0 MB of it. The run `deep` of tools/edges.py meets the limit 4,096 too, and takes 3.0 MB for that: too
+// much beside the table where the stack has 8 MB. It stands here with the limit 1,024, which takes 0.9 MB.
 #![tactic(auto)]
 
 use ran::Ran;
@@ -17,7 +17,7 @@ use text::{Calls, Piece, Table, Words};
 // The word that slices hold before a run.
 const FILL: u32 = 2863311530;
 
-// How many words each part of the table has past those that are lent, where there is room for so many; and in any case.
+// How many words each part of the table has past those that are lent: so many where the table has them, and at the least so many.
 const PAST: usize = 8192;
 
 const LEAST_PAST: usize = 1024;
@@ -56,93 +56,63 @@ impl Lent {
     }
 }
 
-// A run, its calls' codes and what it left, in the parts of the table of which it was lent the first words.
-#[derive(Clone, Copy)]
-struct Left<'a> {
-    run: Ran,
-    codes: &'a [u8],
-    answers: &'a [u32],
-    rows: &'a [u32],
-    cells: &'a [u32],
+// Plays a run, with so many words of each part of the table, if a case may lend them; what it left. Only the parts are filled.
+fn play<'a>(
+    lent: Lent,
+    bytes: &[u8],
+    table: &'a mut [u32],
+    codes: &'a mut [u8],
+) -> Option<Words<'a>> {
+    if !lent.may_be() {
+        return None;
+    }
+    let lent_rows = lent.rows as usize;
+    let lent_cells = lent.cells as usize;
+    let lent_answers = lent.answers as usize;
+    let spare = WORDS.saturating_sub(lent_rows + lent_cells + lent_answers);
+    let past = PAST.min(spare / 3);
+    let (rows, rest) = table.split_at_mut_checked(lent_rows + past)?;
+    let (cells, rest) = rest.split_at_mut_checked(lent_cells + past)?;
+    let (answers, _) = rest.split_at_mut_checked(lent_answers + past)?;
+    rows.fill(FILL);
+    cells.fill(FILL);
+    answers.fill(FILL);
+    let run = run::entry::run(
+        bytes,
+        &mut rows[..lent_rows],
+        &mut cells[..lent_cells],
+        &mut answers[..lent_answers],
+    );
+    syntax::call_codes(bytes, codes);
+    Some(Words {
+        run,
+        calls: Calls { codes, answers },
+        table: Table { rows, cells },
+    })
 }
 
-impl<'a> Left<'a> {
-    // Plays a run, with so many words of each part of the table, if a case may lend them. Only the parts are filled.
-    fn play(
-        lent: Lent,
-        bytes: &[u8],
-        table: &'a mut [u32],
-        codes: &'a mut [u8],
-    ) -> Option<Left<'a>> {
-        if !lent.may_be() {
-            return None;
-        }
-        let lent_rows = lent.rows as usize;
-        let lent_cells = lent.cells as usize;
-        let lent_answers = lent.answers as usize;
-        let spare = WORDS.saturating_sub(lent_rows + lent_cells + lent_answers);
-        let past = PAST.min(spare / 3);
-        let (rows, rest) = table.split_at_mut_checked(lent_rows + past)?;
-        let (cells, rest) = rest.split_at_mut_checked(lent_cells + past)?;
-        let (answers, _) = rest.split_at_mut_checked(lent_answers + past)?;
-        rows.fill(FILL);
-        cells.fill(FILL);
-        answers.fill(FILL);
-        let run = run::entry::run(
-            bytes,
-            &mut rows[..lent_rows],
-            &mut cells[..lent_cells],
-            &mut answers[..lent_answers],
-        );
-        syntax::call_codes(bytes, codes);
-        Some(Left {
-            run,
-            codes,
-            answers,
-            rows,
-            cells,
-        })
+// What a run answered, whether the words past those that it used stayed, and the lines of its last eight calls.
+fn report(rt: &impl Print, left: &Words) -> io::Result<()> {
+    let Ran {
+        number,
+        place,
+        calls,
+        rows,
+        cells,
+    } = left.run;
+    let repeats = left.calls.repeats(calls);
+    print!(rt; "run {number} {place} {calls} {rows} {cells} {repeats}")?;
+    let rows = past(left.table.rows, 24 * rows as usize);
+    let cells = past(left.table.cells, 8 * cells as usize);
+    let answers = past(left.calls.answers, 4 * calls as usize);
+    println!(rt; " {rows} {cells} {answers}")?;
+    for i in calls.saturating_sub(8)..calls {
+        let mut buf = [0u8; 4096];
+        let seen = left.window(Piece::CallLine(i), 0, 0, &mut buf);
+        print!(rt; "call ")?;
+        rt.write_all(&buf[..seen.put])?;
     }
-
-    // The words that the listing is made of.
-    fn words(&self) -> Words<'_> {
-        Words {
-            run: self.run,
-            calls: Calls {
-                codes: self.codes,
-                answers: self.answers,
-            },
-            table: Table {
-                rows: self.rows,
-                cells: self.cells,
-            },
-        }
-    }
-
-    // What the run answered, whether the words past those that it used stayed, and the lines of its last eight calls.
-    fn report(&self, rt: &impl Print) -> io::Result<()> {
-        let Ran {
-            number,
-            place,
-            calls,
-            rows,
-            cells,
-        } = self.run;
-        let words = self.words();
-        let repeats = words.calls.repeats(calls);
-        print!(rt; "run {number} {place} {calls} {rows} {cells} {repeats}")?;
-        let rows = past(self.rows, 24 * rows as usize);
-        let cells = past(self.cells, 8 * cells as usize);
-        let answers = past(self.answers, 4 * calls as usize);
-        println!(rt; " {rows} {cells} {answers}")?;
-        for i in calls.saturating_sub(8)..calls {
-            let mut buf = [0u8; 4096];
-            let seen = words.window(Piece::CallLine(i), 0, 0, &mut buf);
-            print!(rt; "call ")?;
-            rt.write_all(&buf[..seen.put])?;
-        }
-        Ok(())
-    }
+    Ok(())
 }
 
 // Whether the words past the used ones are the one that all were filled with.
@@ -264,8 +234,8 @@ fn case(rt: &impl Print, cases: &[u8], table: &mut [u32]) -> io::Result<()> {
     };
     reader.add_all(&mut bytes);
     let mut codes = [0u8; CALLS];
-    if let Some(left) = Left::play(lent, bytes.as_slice(), table, &mut codes) {
-        left.report(rt)?;
+    if let Some(left) = play(lent, bytes.as_slice(), table, &mut codes) {
+        report(rt, &left)?;
     }
     Ok(())
 }

@@ -73,8 +73,7 @@ fn word(words: &[u8; 24], at: usize) -> usize
     u32::from_le_bytes([words[at], words[at + 1], words[at + 2], words[at + 3]]) as usize
 }
 
-// What each run is played in, filled anew for each: fixed arrays, so that nothing is allocated. `main` makes them in place, since a
-// function that returned them would have them on the stack more than once.
+// What each run is played in, filled anew for each: fixed arrays, so that nothing is allocated.
 #[derive(Drop)]
 struct Tables {
     rows: [u32; ROWS],
@@ -94,8 +93,8 @@ impl Tables {
         Ok(())
     }
 
-    // Plays the stored run in slices of so many words as the head says, unless it asks for more than a stored run may.
-    fn play(&mut self, head: &Head) -> Option<Left<'_>> {
+    // Plays the stored run in as many words as the head says, unless it asks for more than a stored run may: what it left.
+    fn play(&mut self, head: &Head) -> Option<Words<'_>> {
         let bytes = self.bytes.get(..head.bytes)?;
         let rows = self.rows.get_mut(..head.rows)?;
         let cells = self.cells.get_mut(..head.cells)?;
@@ -110,102 +109,78 @@ impl Tables {
     }
 
     // What a run left in the slices that it was lent.
-    fn left(&self, head: &Head, run: Ran) -> Option<Left<'_>> {
-        Some(Left {
+    fn left(&self, head: &Head, run: Ran) -> Option<Words<'_>> {
+        Some(Words {
             run,
-            codes: &self.codes,
-            answers: self.answers.get(..head.answers)?,
-            rows: self.rows.get(..head.rows)?,
-            cells: self.cells.get(..head.cells)?,
+            calls: Calls {
+                codes: &self.codes,
+                answers: self.answers.get(..head.answers)?,
+            },
+            table: Table {
+                rows: self.rows.get(..head.rows)?,
+                cells: self.cells.get(..head.cells)?,
+            },
         })
     }
 }
 
-// A run, its calls' codes and what it left in the slices that it was lent.
-#[derive(Clone, Copy)]
-struct Left<'a> {
-    run: Ran,
-    codes: &'a [u8],
-    answers: &'a [u32],
-    rows: &'a [u32],
-    cells: &'a [u32],
-}
-
-impl Left<'_> {
-    // The words that the listing is made of.
-    fn words(&self) -> Words<'_> {
-        Words {
-            run: self.run,
-            calls: Calls {
-                codes: self.codes,
-                answers: self.answers,
-            },
-            table: Table {
-                rows: self.rows,
-                cells: self.cells,
-            },
-        }
-    }
-
-    // Whether the text is the stored one, the next bytes of standard input; says where they part first. Past the end of either are
-    // zeros.
-    fn has_text(&self, rt: &(impl Input + Print), size: usize) -> io::Result<bool> {
-        let words = self.words();
-        let mut same = true;
-        for from in (0..size).step_by(PART) {
-            let mut stored = [0u8; PART];
-            let mut came = [0u8; PART];
-            let part = PART.min(size - from);
-            stdio::read_full(rt, &mut stored[..part])?;
-            words.window(Piece::Listing, from, 0, &mut came);
-            let at = alike(&stored[..part], &came);
-            if same && at < part {
-                print!(rt; "\nfrom byte {from} on, past {at} bytes, stored: ")?;
-                rt.write_all(line(&stored, at))?;
-                print!(rt; "\ncame: ")?;
-                rt.write_all(line(&came, at))?;
-                println!(rt)?;
-                same = false;
-            }
-        }
-        let mut more = [0u8; PART];
-        let seen = words.window(Piece::Listing, size, 0, &mut more);
-        if 0 < seen.put {
-            print!(rt; "\nmore came: ")?;
-            rt.write_all(line(&more, 0))?;
+// Whether the text is the stored one, the next bytes of standard input; says where they part first. Past the end of either are
+// zeros.
+fn has_text(rt: &(impl Input + Print), left: &Words, size: usize) -> io::Result<bool> {
+    let mut same = true;
+    for from in (0..size).step_by(PART) {
+        let mut stored = [0u8; PART];
+        let mut came = [0u8; PART];
+        let part = PART.min(size - from);
+        stdio::read_full(rt, &mut stored[..part])?;
+        left.window(Piece::Listing, from, 0, &mut came);
+        let at = alike(&stored[..part], &came);
+        if same && at < part {
+            print!(rt; "\nfrom byte {from} on, past {at} bytes, stored: ")?;
+            rt.write_all(line(&stored, at))?;
+            print!(rt; "\ncame: ")?;
+            rt.write_all(line(&came, at))?;
             println!(rt)?;
             same = false;
         }
-        Ok(same)
     }
+    let mut more = [0u8; PART];
+    let seen = left.window(Piece::Listing, size, 0, &mut more);
+    if 0 < seen.put {
+        print!(rt; "\nmore came: ")?;
+        rt.write_all(line(&more, 0))?;
+        println!(rt)?;
+        same = false;
+    }
+    Ok(same)
+}
 
-    // Whether the words past the used ones are as they were; says where not.
-    fn has_kept(&self, rt: &impl Print) -> io::Result<bool> {
-        let mut kept = true;
-        for (label, words, used) in [
-            ("rows", self.rows, 24 * self.run.rows as usize),
-            ("cells", self.cells, 8 * self.run.cells as usize),
-            ("answers", self.answers, 4 * self.run.calls as usize),
-        ] {
-            if !words.iter().skip(used).all(|word| *word == FILL) {
-                println!(rt; "\n{label} past the used ones changed")?;
-                kept = false;
-            }
+// Whether the words past the used ones are as they were; says where not.
+fn has_kept(rt: &impl Print, left: &Words) -> io::Result<bool> {
+    let mut kept = true;
+    for (label, words, used) in [
+        ("rows", left.table.rows, 24 * left.run.rows as usize),
+        ("cells", left.table.cells, 8 * left.run.cells as usize),
+        ("answers", left.calls.answers, 4 * left.run.calls as usize),
+    ] {
+        if !words.iter().skip(used).all(|word| *word == FILL) {
+            println!(rt; "\n{label} past the used ones changed")?;
+            kept = false;
         }
-        Ok(kept)
     }
+    Ok(kept)
+}
 
-    // A run that is refused as a whole has no calls, rows or cells; the text doesn't show that.
-    fn is_fair(&self) -> bool {
-        let Ran {
-            number,
-            calls,
-            rows,
-            cells,
-            ..
-        } = self.run;
-        number == 0 || (calls == 0 && rows == 0 && cells == 0)
-    }
+// A run that is refused as a whole has no calls, rows or cells; the text doesn't show that.
+fn is_fair(run: Ran) -> bool {
+    let Ran {
+        number,
+        calls,
+        rows,
+        cells,
+        ..
+    } = run;
+    number == 0 || (calls == 0 && rows == 0 && cells == 0)
 }
 
 // How many bytes at the start of two texts are alike.
@@ -225,9 +200,9 @@ fn replay(rt: &(impl Input + Print), head: &Head, tables: &mut Tables) -> io::Re
     let Some(left) = tables.play(head) else {
         return Ok(None);
     };
-    let same = left.has_text(rt, head.text)?;
-    let kept = left.has_kept(rt)?;
-    Ok((same && kept && left.is_fair()).then_some(left.run.calls))
+    let same = has_text(rt, &left, head.text)?;
+    let kept = has_kept(rt, &left)?;
+    Ok((same && kept && is_fair(left.run)).then_some(left.run.calls))
 }
 
 // What was compared so far.

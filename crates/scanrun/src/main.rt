@@ -4,8 +4,8 @@
 use std::{io, iter};
 use syntax::{Fitting, RefusedRun, STACK, Scanned, Unfit, Unread};
 
-// The bytes of a run that is put together: a fixed array, so that nothing is allocated. `main` makes it in place, since a function
-// that returned it would have it on the stack more than once. It has room for a byte more than a run may have, and drops the rest.
+// The bytes of a run that is put together: a fixed array, so that nothing is allocated. It has room for a byte more than a run may
+// have, and drops the rest.
 #[derive(Drop)]
 struct Bytes {
     room: [u8; 65537],
