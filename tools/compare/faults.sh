@@ -46,7 +46,8 @@ fault() {
     grep -E 'DIFFERENCE|smallest run|^bytes|^slices|no difference|runs compared' "$work/compared"
     [ "$status" -eq "$wanted" ] || { echo "compare: status $status, wanted $wanted"; failed=1; }
     [ "$program" = none ] && return 0
-    (cd "$copy/crates/$program" && rt try --seconds 600 <stdin) >"$work/tried" 2>"$work/said" || :
+    # The checks take stack too, more than 8 MB beside the tables of `edges`.
+    (cd "$copy/crates/$program" && ulimit -s 65536 && rt try --seconds 600 <stdin) >"$work/tried" 2>"$work/said" || :
     diff "$copy/crates/$program/stdout" "$work/tried" | sed -n "s/^> /$program: /p" | head -n1
     status=0
     cmp -s "$work/tried" "$copy/crates/$program/stdout" || status=1
